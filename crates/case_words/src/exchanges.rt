@@ -5,7 +5,7 @@ use crate::files::locked;
 use http_edge::{Counted, Served, receive, send, serve_one};
 use keepers::{Keep, Locks};
 use std::alloc::{AllocError, Global};
-use stored_state::{Kept, Opened, Stored, open_any};
+use stored_state::{AnyKept, Kept, StoredController, open_any};
 use streams::{Refused, refused_line};
 
 /// Appends a line with the refusal of a request, if there was one, and one with the status of the
@@ -19,7 +19,7 @@ fn push_served(alloc: Global, lines: &mut Vec<u8>, served: &Served) -> Result<()
 }
 
 /// Serves a request; none where it has no response.
-fn serve_kept<C: Stored, K: Keep>(
+fn serve_kept<C: StoredController, K: Keep>(
     alloc: Global,
     kept: &mut Kept<C, K>,
     at: u64,
@@ -40,8 +40,8 @@ fn serve_file<R: Locks>(
 ) -> Option<Served> {
     let keep = locked(rt, alloc, file).ok()?;
     match open_any(alloc, keep) {
-        Ok(Opened::Master(mut kept)) => serve_kept(alloc, &mut kept, at, request, writer),
-        Ok(Opened::Worker(mut kept)) => serve_kept(alloc, &mut kept, at, request, writer),
+        Ok(AnyKept::Master(mut kept)) => serve_kept(alloc, &mut kept, at, request, writer),
+        Ok(AnyKept::Worker(mut kept)) => serve_kept(alloc, &mut kept, at, request, writer),
         Err(_) => None,
     }
 }

@@ -7,7 +7,7 @@ use keepers::Locks;
 use master_core::Master;
 use spawn::Holder;
 use std::alloc::{AllocError, Global};
-use stored_state::{Opened, open_any};
+use stored_state::{AnyKept, open_any};
 use streams::Refused;
 use ticket_tree::{Duplicate, Id, Refusal};
 
@@ -21,8 +21,8 @@ pub fn line_in<R: Locks>(
     ids: &[String],
 ) -> Result<Vec<u8>, Refused> {
     match open_any(alloc, locked(rt, alloc, file)?)? {
-        Opened::Master(kept) => Ok(line_for(alloc, word, kept.controller(), ids)?),
-        Opened::Worker(_) => Err(Refused::Core(Refusal::NotProfile)),
+        AnyKept::Master(kept) => Ok(line_for(alloc, word, kept.controller(), ids)?),
+        AnyKept::Worker(_) => Err(Refused::Core(Refusal::NotProfile)),
     }
 }
 

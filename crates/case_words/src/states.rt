@@ -5,13 +5,13 @@ use crate::forms::{line, line_of};
 use keepers::MemoryKeep;
 use master_core::Master;
 use std::alloc::Global;
-use stored_state::{Opened, Stored, open_any};
+use stored_state::{AnyKept, StoredController, open_any};
 use streams::Refused;
 use ticket_tree::{Duplicate, Refusal};
 use worker_core::Worker;
 
 /// What a controller's state is written as.
-fn state_line<C: Stored>(alloc: Global, controller: &C) -> Result<Vec<u8>, Refused> {
+fn state_line<C: StoredController>(alloc: Global, controller: &C) -> Result<Vec<u8>, Refused> {
     Ok(line(controller.state_text(alloc)?)?)
 }
 
@@ -19,15 +19,15 @@ fn state_line<C: Stored>(alloc: Global, controller: &C) -> Result<Vec<u8>, Refus
 pub fn again(alloc: Global, text: &[u8]) -> Result<Vec<u8>, Refused> {
     let opened = open_any(alloc, MemoryKeep::new(Vec::from_slice(alloc, text)?))?;
     let line = match &opened {
-        Opened::Master(kept) => state_line(alloc, kept.controller()),
-        Opened::Worker(kept) => state_line(alloc, kept.controller()),
+        AnyKept::Master(kept) => state_line(alloc, kept.controller()),
+        AnyKept::Worker(kept) => state_line(alloc, kept.controller()),
     };
     drop(opened);
     line
 }
 
 /// A controller that can be made of copies of what it has.
-trait Copied: Stored {
+trait Copied: StoredController {
     /// One of copies of what it has.
     fn copied(&self, alloc: Global) -> Result<Self, Refusal>;
 }
@@ -62,8 +62,8 @@ fn value_line<C: Copied>(alloc: Global, controller: &C) -> Result<Vec<u8>, Refus
 pub fn value_again(alloc: Global, text: &[u8]) -> Result<Vec<u8>, Refused> {
     let opened = open_any(alloc, MemoryKeep::new(Vec::from_slice(alloc, text)?))?;
     let line = match &opened {
-        Opened::Master(kept) => value_line(alloc, kept.controller()),
-        Opened::Worker(kept) => value_line(alloc, kept.controller()),
+        AnyKept::Master(kept) => value_line(alloc, kept.controller()),
+        AnyKept::Worker(kept) => value_line(alloc, kept.controller()),
     };
     drop(opened);
     line

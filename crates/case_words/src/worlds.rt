@@ -4,7 +4,7 @@ use controller_form::StateForm;
 use jmf_message::decode;
 use keepers::{Keep, MemoryKeep};
 use std::alloc::{AllocError, Global};
-use stored_state::{Kept, Stored};
+use stored_state::{Kept, StoredController};
 use streams::Refused;
 use ticket_tree::{Duplicate, Id, Ids, Items, Refusal, Ticket};
 use worker_core::Worker;
@@ -183,7 +183,7 @@ fn happens_beside<S: Shop>(
 }
 
 /// The worker beside its keeper is told to do something.
-fn order_beside<C: Stored, K: Keep>(
+fn order_beside<C: StoredController, K: Keep>(
     alloc: Global,
     beside: &mut Kept<C, K>,
     order: C::Order,

@@ -4,9 +4,9 @@ use Rattle.std.specs.Prelude.{Option, Some, None, IfSome, ⊤}
 use Rattle.std.proofs.lemmas.List.{append_assoc}
 use Rattle.keepers.specs.Crash.{IsWithin}
 use Rattle.cells.specs.Calls.{Goes, IsMade, IsNot, MayMake, Sends, Swaps}
-use Rattle.cells.specs.Chain.{Grows, IsMadeBy, Links, Makes, Swap, Version, View, held}
-use Rattle.cells.specs.declared.swapped.Swapped.{Swapped}
-use Rattle.cells.specs.declared.swapped.Swapped.TheVariants.{Made, Other, Unknown}
+use Rattle.cells.specs.Chain.{Grows, IsMadeBy, Links, Makes, Swap, Version, View, newest}
+use Rattle.cells.specs.declared.swapped.SwapResult.{SwapResult}
+use Rattle.cells.specs.declared.swapped.SwapResult.TheVariants.{Made, Other, Unknown}
 
 abbrev Comes : Type 1
 Comes = Version → Version → Type 0
@@ -22,12 +22,12 @@ widen_links P Q each (b ∷ added) old links = (each _ _ links.0, widen_links P 
 -- values behind values
 join_links : (P : Comes) (more added old : List Version) → Links P more (added ++ old) → Links P added old → Links P (more ++ added) old
 join_links P [] added old more links = links
-join_links P (b ∷ more) added old behind links = (subst (λ (l : List Version). P (held l) b) (sym (append_assoc more added old)) behind.0, join_links P more added old behind.1 links)
+join_links P (b ∷ more) added old behind links = (subst (λ (l : List Version). P (newest l) b) (sym (append_assoc more added old)) behind.0, join_links P more added old behind.1 links)
 
 pub grows_not : (P : Comes) (old : List Version) → Grows P old old
 grows_not P old = record { added = []; is = refl; links = _ }
 
-pub grows_one : (P : Comes) (old : List Version) (v : Version) → P (held old) v → Grows P old (v ∷ old)
+pub grows_one : (P : Comes) (old : List Version) (v : Version) → P (newest old) v → Grows P old (v ∷ old)
 grows_one P old v comes = record { added = v ∷ []; is = refl; links = (comes, _) }
 
 pub grows_widen : (P Q : Comes) (each : (a b : Version) → P a b → Q a b) (old new : List Version) → Grows P old new → Grows Q old new
@@ -41,20 +41,20 @@ grows_join P old mid new g h = record {
 }
 
 -- revisions rise
-links_rise : (X : Sent) (added old : List Version) → Links (IsMadeBy X) added old → (held old).revision ≤ (held (added ++ old)).revision
+links_rise : (X : Sent) (added old : List Version) → Links (IsMadeBy X) added old → (newest old).revision ≤ (newest (added ++ old)).revision
 links_rise X [] old links = omega arith
 links_rise X (b ∷ added) old links = omega (arith, links_rise X added old links.1, links.0.2.later)
 
-pub grows_rise : (X : Sent) (old new : List Version) → Grows (IsMadeBy X) old new → (held old).revision ≤ (held new).revision
-grows_rise X old new g = subst (λ (l : List Version). (held old).revision ≤ (held l).revision) (sym g.is) (links_rise X g.added old g.links)
+pub grows_rise : (X : Sent) (old new : List Version) → Grows (IsMadeBy X) old new → (newest old).revision ≤ (newest new).revision
+grows_rise X old new g = subst (λ (l : List Version). (newest old).revision ≤ (newest l).revision) (sym g.is) (links_rise X g.added old g.links)
 
 -- where the revision is the same, nothing was added
-links_stay : (X : Sent) (added old : List Version) → Links (IsMadeBy X) added old → (held (added ++ old)).revision ≡ (held old).revision → added ++ old ≡ old
+links_stay : (X : Sent) (added old : List Version) → Links (IsMadeBy X) added old → (newest (added ++ old)).revision ≡ (newest old).revision → added ++ old ≡ old
 links_stay X [] old links same = refl
 links_stay X (b ∷ added) old links same = absurd (omega (arith, links_rise X added old links.1, links.0.2.later, same))
 
-pub grows_stay : (X : Sent) (old new : List Version) → Grows (IsMadeBy X) old new → (held new).revision ≡ (held old).revision → new ≡ old
-grows_stay X old new g same = g.is ∙ links_stay X g.added old g.links (ap (λ l. (held l).revision) (sym g.is) ∙ same)
+pub grows_stay : (X : Sent) (old new : List Version) → Grows (IsMadeBy X) old new → (newest new).revision ≡ (newest old).revision → new ≡ old
+grows_stay X old new g same = g.is ∙ links_stay X g.added old g.links (ap (λ l. (newest l).revision) (sym g.is) ∙ same)
 
 -- ---- from view to view
 
@@ -89,7 +89,7 @@ pub none_sent : (old : View) (s : Swap) (new : View) → Goes old new → MayMak
 none_sent old s new goes = sends_more old _ _ new (λ o (none : ⊥). absurd none) goes
 
 -- whatever the answer to a swap is, that was sent and no other
-pub swaps_sends : (old : View) (s : Swap) (new : View) (answer : Swapped) → Swaps old s new answer → MayMake old s new
+pub swaps_sends : (old : View) (s : Swap) (new : View) (answer : SwapResult) → Swaps old s new answer → MayMake old s new
 swaps_sends old s new (Made revision) made = made_sends old s new revision made
 swaps_sends old s new Other not = none_sent old s new not.goes
 swaps_sends old s new Unknown may = may

@@ -6,11 +6,11 @@ use Rattle.std.proofs.lemmas.List.{append_assoc}
 use Rattle.std.proofs.lemmas.Slice.Eq.{bytes_eq-Decides}
 use Rattle.keepers.specs.Crash.{IsWithin}
 use Rattle.cells.specs.Calls.{Goes, IsMade, IsNot, MayMake, Sends, Swaps}
-use Rattle.cells.specs.Chain.{Grows, IsMadeBy, Makes, Swap, Version, View, held}
+use Rattle.cells.specs.Chain.{Grows, IsMadeBy, Makes, Swap, Version, View, newest}
 use Rattle.cells.specs.Keeping.{Holding, after_swap, after_touch, can_swap, can_touch, has_read, swap_of, touch_of}
 use Rattle.cells.specs.Kept.{IsOfLoad, IsOfSave, IsPartOf, IsSettled, IsStepped, IsSwapped, SavesAs, holds}
-use Rattle.cells.specs.declared.swapped.Swapped.{Swapped}
-use Rattle.cells.specs.declared.swapped.Swapped.TheVariants.{Made, Other, Unknown}
+use Rattle.cells.specs.declared.swapped.SwapResult.{SwapResult}
+use Rattle.cells.specs.declared.swapped.SwapResult.TheVariants.{Made, Other, Unknown}
 use Rattle.cells.proofs.Growing.{Sent, grows_rise, grows_stay, sends_join, sends_more, sends_not, swaps_sends}
 
 -- ---- a touch
@@ -19,21 +19,21 @@ use Rattle.cells.proofs.Growing.{Sent, grows_rise, grows_stay, sends_join, sends
 abbrev has_of : Option Version → Bool → Holding
 has_of has o = record { has = has; is_open = o }
 
-touch_sends_of : (has : Option Version) (o : Bool) (old new : View) (answer : Swapped) → can_touch (has_of has o) ≡ true → IfSome has (λ v. Swaps old (touch_of v) new answer) → Sends old (IsOfLoad (has_of has o)) new
+touch_sends_of : (has : Option Version) (o : Bool) (old new : View) (answer : SwapResult) → can_touch (has_of has o) ≡ true → IfSome has (λ v. Swaps old (touch_of v) new answer) → Sends old (IsOfLoad (has_of has o)) new
 touch_sends_of (Some v) o old new answer can swaps = sends_more old _ _ new (λ s is. (v, refl, is)) (swaps_sends old (touch_of v) new answer swaps)
 touch_sends_of None o old new answer can swaps = absurd (cc can)
 
-touch_sends : (holding : Holding) (old new : View) (answer : Swapped) → can_touch holding ≡ true → IfSome holding.has (λ v. Swaps old (touch_of v) new answer) → Sends old (IsOfLoad holding) new
+touch_sends : (holding : Holding) (old new : View) (answer : SwapResult) → can_touch holding ≡ true → IfSome holding.has (λ v. Swaps old (touch_of v) new answer) → Sends old (IsOfLoad holding) new
 touch_sends holding = touch_sends_of holding.has holding.is_open
 
 later_than : (a b c : ℕ) → a ≤ b → b ≤ c → a ≢ c → a < c
 later_than a b c low rise not = grind (arith, low, rise, not)
 
-touch_settles_of : (has : Option Version) (o : Bool) (old new : View) (answer : Swapped) → can_touch (has_of has o) ≡ true → IfSome has (λ v. Swaps old (touch_of v) new answer) → (after_touch answer (has_of has o)).is_open ≡ false → IsSettled (has_of has o) old new
+touch_settles_of : (has : Option Version) (o : Bool) (old new : View) (answer : SwapResult) → can_touch (has_of has o) ≡ true → IfSome has (λ v. Swaps old (touch_of v) new answer) → (after_touch answer (has_of has o)).is_open ≡ false → IsSettled (has_of has o) old new
 touch_settles_of None o old new answer can swaps closed = absurd (cc can)
 touch_settles_of (Some v) o old new (Made revision) can made closed = record {
   sent = made.sent;
-  past = λ is_open low. subst (λ (c : List Version). v.revision < (held c).revision) (sym made.is) (subst (λ n. n < made.value.revision) (sym made.makes.over) made.makes.later);
+  past = λ is_open low. subst (λ (c : List Version). v.revision < (newest c).revision) (sym made.is) (subst (λ n. n < made.value.revision) (sym made.makes.over) made.makes.later);
 }
 touch_settles_of (Some v) o old new Other can not closed = record {
   sent = λ s may. ⊎_elim (λ x. x) (λ (none : ⊥). absurd none) (not.goes.sent s may);
@@ -49,11 +49,11 @@ closed_settled holding v closed = record {
 }
 
 -- a touch, if there was one
-pub settle_sends : (holding : Holding) (old new : View) (answer : Option Swapped) → is_some answer ≡ can_touch holding → (IsNone answer → new ≡ old) → IfSome answer (λ a. IfSome holding.has (λ v. Swaps old (touch_of v) new a)) → Sends old (IsOfLoad holding) new
+pub settle_sends : (holding : Holding) (old new : View) (answer : Option SwapResult) → is_some answer ≡ can_touch holding → (IsNone answer → new ≡ old) → IfSome answer (λ a. IfSome holding.has (λ v. Swaps old (touch_of v) new a)) → Sends old (IsOfLoad holding) new
 settle_sends holding old new None can none swaps = subst (Sends old (IsOfLoad holding)) (sym (none refl)) (sends_not old _)
 settle_sends holding old new (Some a) can none swaps = touch_sends holding old new a (sym can) swaps
 
-pub settle_settles : (holding new_holding : Holding) (old new : View) (answer : Option Swapped) → is_some answer ≡ can_touch holding → (IsNone answer → new ≡ old) → (IsNone answer → new_holding ≡ holding) → IfSome answer (λ a. IfSome holding.has (λ v. Swaps old (touch_of v) new a)) → IfSome answer (λ a. new_holding ≡ after_touch a holding) → new_holding.is_open ≡ false → IsSettled holding old new
+pub settle_settles : (holding new_holding : Holding) (old new : View) (answer : Option SwapResult) → is_some answer ≡ can_touch holding → (IsNone answer → new ≡ old) → (IsNone answer → new_holding ≡ holding) → IfSome answer (λ a. IfSome holding.has (λ v. Swaps old (touch_of v) new a)) → IfSome answer (λ a. new_holding ≡ after_touch a holding) → new_holding.is_open ≡ false → IsSettled holding old new
 settle_settles holding new_holding old new None can none same swaps after closed = subst (IsSettled holding old) (sym (none refl)) (closed_settled holding old (subst (λ (h : Holding). h.is_open ≡ false) (same refl) closed))
 settle_settles holding new_holding old new (Some a) can none same swaps after closed = touch_settles_of holding.has holding.is_open old new a (sym can) swaps (subst (λ (h : Holding). h.is_open ≡ false) after closed)
 
@@ -78,26 +78,26 @@ load_settles (Err e) holding closed old mid new is settled goes = _
 
 -- ---- a swap
 
-swap_sends_of : (has : Option Version) (o : Bool) (bytes : List ℕ) (old new : View) (answer : Swapped) → can_swap (has_of has o) ≡ true → IfSome has (λ v. Swaps old (swap_of v bytes) new answer) → Sends old (IsOfSave (has_of has o) bytes) new
+swap_sends_of : (has : Option Version) (o : Bool) (bytes : List ℕ) (old new : View) (answer : SwapResult) → can_swap (has_of has o) ≡ true → IfSome has (λ v. Swaps old (swap_of v bytes) new answer) → Sends old (IsOfSave (has_of has o) bytes) new
 swap_sends_of (Some v) o bytes old new answer can swaps = sends_more old _ _ new (λ s is. (v, refl, inl is)) (swaps_sends old (swap_of v bytes) new answer swaps)
 swap_sends_of None o bytes old new answer can swaps = absurd (cc can)
 
-pub swap_sends : (holding : Holding) (bytes : List ℕ) (old new : View) (answer : Swapped) → can_swap holding ≡ true → IfSome holding.has (λ v. Swaps old (swap_of v bytes) new answer) → Sends old (IsOfSave holding bytes) new
+pub swap_sends : (holding : Holding) (bytes : List ℕ) (old new : View) (answer : SwapResult) → can_swap holding ≡ true → IfSome holding.has (λ v. Swaps old (swap_of v bytes) new answer) → Sends old (IsOfSave holding bytes) new
 swap_sends holding = swap_sends_of holding.has holding.is_open
 
 -- by its parts
 is_version : (v : Version) (revision : ℕ) (bytes : List ℕ) → v.revision ≡ revision → v.bytes ≡ bytes → record { revision = revision; bytes = bytes } ≡ v
 is_version v revision bytes r b = sym (ap (λ n. record { revision = n; bytes = v.bytes }) r ∙ ap (λ (l : List ℕ). record { revision = revision; bytes = l }) b)
 
-swap_told_of : (has : Option Version) (o : Bool) (new_holding : Holding) (bytes : List ℕ) (old new : View) (answer : Swapped) → can_swap (has_of has o) ≡ true → IfSome has (λ v. Swaps old (swap_of v bytes) new answer) → new_holding ≡ after_swap answer bytes (has_of has o) → SavesAs (has_of has o) bytes old new new_holding answer
+swap_told_of : (has : Option Version) (o : Bool) (new_holding : Holding) (bytes : List ℕ) (old new : View) (answer : SwapResult) → can_swap (has_of has o) ≡ true → IfSome has (λ v. Swaps old (swap_of v bytes) new answer) → new_holding ≡ after_swap answer bytes (has_of has o) → SavesAs (has_of has o) bytes old new new_holding answer
 swap_told_of None o new_holding bytes old new answer can swaps after = absurd (cc can)
 swap_told_of (Some v) true new_holding bytes old new answer can swaps after = absurd (cc can)
 swap_told_of (Some v) false new_holding bytes old new (Made revision) can made after =
-    ((v, refl, (revision, made)), after ∙ ap has_read (is_version made.value revision bytes made.revision_is made.makes.bytes ∙ sym (ap held made.is)))
+    ((v, refl, (revision, made)), after ∙ ap has_read (is_version made.value revision bytes made.revision_is made.makes.bytes ∙ sym (ap newest made.is)))
 swap_told_of (Some v) false new_holding bytes old new Other can not after = not
 swap_told_of (Some v) false new_holding bytes old new Unknown can may after = _
 
-pub swap_told : (holding new_holding : Holding) (bytes : List ℕ) (old new : View) (answer : Swapped) → can_swap holding ≡ true → IfSome holding.has (λ v. Swaps old (swap_of v bytes) new answer) → new_holding ≡ after_swap answer bytes holding → SavesAs holding bytes old new new_holding answer
+pub swap_told : (holding new_holding : Holding) (bytes : List ℕ) (old new : View) (answer : SwapResult) → can_swap holding ≡ true → IfSome holding.has (λ v. Swaps old (swap_of v bytes) new answer) → new_holding ≡ after_swap answer bytes holding → SavesAs holding bytes old new new_holding answer
 swap_told holding = swap_told_of holding.has holding.is_open
 
 -- and a touch behind it
@@ -105,7 +105,7 @@ pub touch_behind : (holding mid_holding : Holding) (bytes : List ℕ) (old mid n
 touch_behind holding mid_holding bytes old mid new same first second =
     sends_join old _ mid new first (sends_more mid _ _ new (λ s is. (is.0, sym same ∙ is.1, inr is.2)) second)
 
-pub unknown_same : (a : Swapped) (bytes : List ℕ) (holding new_holding : Holding) → new_holding ≡ after_swap a bytes holding → a ≡ Unknown → new_holding.has ≡ holding.has
+pub unknown_same : (a : SwapResult) (bytes : List ℕ) (holding new_holding : Holding) → new_holding ≡ after_swap a bytes holding → a ≡ Unknown → new_holding.has ≡ holding.has
 unknown_same Unknown bytes holding new_holding after is = ap (λ (h : Holding). h.has) after
 unknown_same (Made revision) bytes holding new_holding after is = absurd (cc is)
 unknown_same Other bytes holding new_holding after is = absurd (cc is)
@@ -116,11 +116,11 @@ some_same : (a b : Version) → Some a ≡ Some b → a ≡ b
 some_same a b same = cc same
 
 -- the value that was loaded is the one that was swapped
-pub swapped_stepped : {G : Type 0} (makes : List ℕ → List ℕ → G → Type 0) (start : List Version) (old new : View) (holding : Holding) (bytes : List ℕ) (given : G) → IsPartOf start old.chain → holding.has ≡ Some (held old.chain) → makes (held old.chain).bytes bytes given → IsSwapped holding bytes old new → IsStepped makes start new.chain given
+pub swapped_stepped : {G : Type 0} (makes : List ℕ → List ℕ → G → Type 0) (start : List Version) (old new : View) (holding : Holding) (bytes : List ℕ) (given : G) → IsPartOf start old.chain → holding.has ≡ Some (newest old.chain) → makes (newest old.chain).bytes bytes given → IsSwapped holding bytes old new → IsStepped makes start new.chain given
 swapped_stepped makes start old new holding bytes given since has does swapped =
     let made = swapped.2.1 in
-    let same : swapped.0 ≡ held old.chain = some_same _ _ (sym swapped.1 ∙ has) in
-    let over : (held made.before).revision ≡ (held old.chain).revision = sym made.makes.over ∙ ap (λ (v : Version). v.revision) same in
+    let same : swapped.0 ≡ newest old.chain = some_same _ _ (sym swapped.1 ∙ has) in
+    let over : (newest made.before).revision ≡ (newest old.chain).revision = sym made.makes.over ∙ ap (λ (v : Version). v.revision) same in
     let stays : made.before ≡ old.chain = grows_stay _ old.chain made.before made.landed over in
     record {
       chain = old.chain;
@@ -130,7 +130,7 @@ swapped_stepped makes start old new holding bytes given since has does swapped =
       leaves = inr (made.value, made.makes.bytes, made.is ∙ ap (λ c. made.value ∷ c) stays);
     }
 
-pub rested_stepped : {G : Type 0} (makes : List ℕ → List ℕ → G → Type 0) (start chain : List Version) (bytes : List ℕ) (given : G) → IsPartOf start chain → makes (held chain).bytes bytes given → bytes ≡ (held chain).bytes → IsStepped makes start chain given
+pub rested_stepped : {G : Type 0} (makes : List ℕ → List ℕ → G → Type 0) (start chain : List Version) (bytes : List ℕ) (given : G) → IsPartOf start chain → makes (newest chain).bytes bytes given → bytes ≡ (newest chain).bytes → IsStepped makes start chain given
 rested_stepped makes start chain bytes given since does same = record {
   chain = chain;
   since = since;
@@ -159,10 +159,10 @@ stepped_since makes start mid new given since stepped = record {
 }
 
 -- a load, a step and a save
-pub once_stepped : {G : Type 0} (makes : List ℕ → List ℕ → G → Type 0) (start mid new : View) (X : Sent) (holding : Holding) (bytes : List ℕ) (given : G) (same : Bool) → Sends start X mid → holding ≡ has_read (held mid.chain) → makes (held mid.chain).bytes bytes given → holds holding bytes ≡ same → (holds holding bytes ≡ true → new ≡ mid) → (holds holding bytes ≡ false → IsSwapped holding bytes mid new) → IsStepped makes start.chain new.chain given
+pub once_stepped : {G : Type 0} (makes : List ℕ → List ℕ → G → Type 0) (start mid new : View) (X : Sent) (holding : Holding) (bytes : List ℕ) (given : G) (same : Bool) → Sends start X mid → holding ≡ has_read (newest mid.chain) → makes (newest mid.chain).bytes bytes given → holds holding bytes ≡ same → (holds holding bytes ≡ true → new ≡ mid) → (holds holding bytes ≡ false → IsSwapped holding bytes mid new) → IsStepped makes start.chain new.chain given
 once_stepped makes start mid new X holding bytes given true sends read does is rests swapped =
     subst (λ (v : View). IsStepped makes start.chain v.chain given) (sym (rests is))
-    (rested_stepped makes start.chain mid.chain bytes given (part_of start X mid sends) does (holds_same (held mid.chain) bytes (subst (λ (h : Holding). holds h bytes ≡ true) read is)))
+    (rested_stepped makes start.chain mid.chain bytes given (part_of start X mid sends) does (holds_same (newest mid.chain) bytes (subst (λ (h : Holding). holds h bytes ≡ true) read is)))
 once_stepped makes start mid new X holding bytes given false sends read does is rests swapped =
     swapped_stepped makes start.chain mid new holding bytes given (part_of start X mid sends) (ap (λ (h : Holding). h.has) read) does (swapped is)
 
@@ -170,7 +170,7 @@ pub once_sent : (start mid new : View) (before holding : Holding) (bytes : List 
 once_sent start mid new before holding bytes true settled is rests swapped = subst (λ (v : View). IsWithin v.may_land start.may_land) (sym (rests is)) settled.sent
 once_sent start mid new before holding bytes false settled is rests swapped = λ s may. settled.sent s ((swapped is).2.1.sent s may)
 
-pub conflict_sent : (start mid new : View) (before holding : Holding) (bytes : List ℕ) → IsSettled before start mid → holding ≡ has_read (held mid.chain) → IfSome holding.has (λ v. IsNot mid (swap_of v bytes) new) → IsWithin new.may_land start.may_land
+pub conflict_sent : (start mid new : View) (before holding : Holding) (bytes : List ℕ) → IsSettled before start mid → holding ≡ has_read (newest mid.chain) → IfSome holding.has (λ v. IsNot mid (swap_of v bytes) new) → IsWithin new.may_land start.may_land
 conflict_sent start mid new before holding bytes settled read not =
     let is_not = subst (λ (h : Holding). IfSome h.has (λ v. IsNot mid (swap_of v bytes) new)) read not in
     λ s may. settled.sent s (⊎_elim (λ x. x) (λ (none : ⊥). absurd none) (is_not.goes.sent s may))

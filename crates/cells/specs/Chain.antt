@@ -7,13 +7,13 @@ pub record Version : Type 0 where
   pub bytes : List ℕ
 
 -- before any value was held
-abbrev pub nothing : Version
-nothing = record { revision = 0; bytes = [] }
+abbrev pub no_version : Version
+no_version = record { revision = 0; bytes = [] }
 
 -- the one that is held, of all that ever were, the newest first
-abbrev pub held : List Version → Version
-held [] = nothing
-held (v ∷ before) = v
+abbrev pub newest : List Version → Version
+newest [] = no_version
+newest (v ∷ before) = v
 
 -- what a swap asks: these bytes in place of the value of a revision, or, as a touch, its own bytes
 pub record Swap : Type 0 where
@@ -33,7 +33,7 @@ IsMadeBy is_one a b = (s : Swap) × is_one s × Makes s a b
 -- the values that were added to older ones: each comes so of the one before
 abbrev pub Links : (Version → Version → Type 0) → List Version → List Version → Type 0
 Links Comes [] old = ⊤
-Links Comes (b ∷ added) old = Comes (held (added ++ old)) b × Links Comes added old
+Links Comes (b ∷ added) old = Comes (newest (added ++ old)) b × Links Comes added old
 
 -- the values ever held became more, and each new one comes so of the one before
 pub record Grows (Comes : Version → Version → Type 0) (old new : List Version) : Type 0 where

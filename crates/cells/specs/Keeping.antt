@@ -1,8 +1,8 @@
 -- A holder of a cell: what it read or made last, and what it asks then.
 use Rattle.std.specs.Prelude.{ℕ, List, Bool, true, false, ◌&&◌, not, Option, Some, None, is_some}
 use Rattle.cells.specs.Chain.{Swap, Version}
-use Rattle.cells.specs.declared.swapped.Swapped.{Swapped}
-use Rattle.cells.specs.declared.swapped.Swapped.TheVariants.{Made, Other, Unknown}
+use Rattle.cells.specs.declared.swapped.SwapResult.{SwapResult}
+use Rattle.cells.specs.declared.swapped.SwapResult.TheVariants.{Made, Other, Unknown}
 
 -- what it has, as it was read or made; open where a swap of it was sent whose answer didn't come
 pub record Holding : Type 0 where
@@ -10,8 +10,8 @@ pub record Holding : Type 0 where
   pub is_open : Bool
 
 -- it has nothing
-abbrev pub idle : Holding
-idle = record { has = None; is_open = false }
+abbrev pub new_holding : Holding
+new_holding = record { has = None; is_open = false }
 
 -- it has this, and no swap of it is open
 abbrev pub has_read : Version → Holding
@@ -32,7 +32,7 @@ abbrev pub can_touch : Holding → Bool
 can_touch holding = is_some holding.has && holding.is_open
 
 -- it once a swap by these bytes was answered
-abbrev pub after_swap : Swapped → List ℕ → Holding → Holding
+abbrev pub after_swap : SwapResult → List ℕ → Holding → Holding
 after_swap (Made revision) bytes holding = record {
   has = Some (record { revision = revision; bytes = bytes });
   is_open = holding.is_open;
@@ -41,7 +41,7 @@ after_swap Other bytes holding = record holding { has = None }
 after_swap Unknown bytes holding = record holding { is_open = true }
 
 -- it once a touch was answered
-abbrev pub after_touch : Swapped → Holding → Holding
-after_touch (Made revision) holding = idle
-after_touch Other holding = idle
+abbrev pub after_touch : SwapResult → Holding → Holding
+after_touch (Made revision) holding = new_holding
+after_touch Other holding = new_holding
 after_touch Unknown holding = holding

@@ -4,13 +4,13 @@ use Rattle.std.specs.Prelude.{Option, Some, IfSome, ◌&&◌, not, bytes_eq, ⊤
 use Rattle.std.specs.Option.{option_map_or}
 use Rattle.keepers.specs.Crash.{IsWithin}
 use Rattle.cells.specs.Calls.{IsMade, IsNot}
-use Rattle.cells.specs.Chain.{Swap, Version, View, held}
+use Rattle.cells.specs.Chain.{Swap, Version, View, newest}
 use Rattle.cells.specs.Keeping.{Holding, has_read, swap_of, touch_of}
-use Rattle.cells.specs.declared.swapped.Swapped.{Swapped}
-use Rattle.cells.specs.declared.swapped.Swapped.TheVariants.{Made, Other, Unknown}
+use Rattle.cells.specs.declared.swapped.SwapResult.{SwapResult}
+use Rattle.cells.specs.declared.swapped.SwapResult.TheVariants.{Made, Other, Unknown}
 
 -- the cell and what is known of it, whether the last save was a conflict, and how many calls failed
-pub record Kept (C : Type 0) : Type 0 where
+pub record CellKeepView (C : Type 0) : Type 0 where
   pub cell : C
   pub holding : Holding
   pub is_conflict : Bool
@@ -34,7 +34,7 @@ IsOfLoad holding s = (v : Version) × (holding.has ≡ Some v) × (s ≡ touch_o
 pub record IsSettled (holding : Holding) (old new : View) : Type 0 where
   pub sent : IsWithin new.may_land old.may_land
   pub past : holding.is_open ≡ true → IfSome holding.has
-      (λ v. v.revision ≤ (held old.chain).revision → v.revision < (held new.chain).revision)
+      (λ v. v.revision ≤ (newest old.chain).revision → v.revision < (newest new.chain).revision)
 
 -- it had a value that these bytes replaced, by one swap, which is what is held
 abbrev pub IsSwapped : Holding → List ℕ → View → View → Type 0
@@ -43,9 +43,9 @@ IsSwapped holding bytes old new =
 
 -- what the answer to a save by these bytes tells, and what it has then: they were swapped; or
 -- another came first, and they never will be
-abbrev pub SavesAs : Holding → List ℕ → View → View → Holding → Swapped → Type 0
+abbrev pub SavesAs : Holding → List ℕ → View → View → Holding → SwapResult → Type 0
 SavesAs holding bytes old new after (Made revision) =
-    IsSwapped holding bytes old new × (after ≡ has_read (held new.chain))
+    IsSwapped holding bytes old new × (after ≡ has_read (newest new.chain))
 SavesAs holding bytes old new after Other =
     IfSome holding.has (λ v. IsNot old (swap_of v bytes) new)
 SavesAs holding bytes old new after Unknown = ⊤
@@ -61,6 +61,6 @@ pub record IsStepped {G : Type 0} (makes : List ℕ → List ℕ → G → Type 
   pub chain : List Version
   pub since : IsPartOf old chain
   pub bytes : List ℕ
-  pub makes_it : makes (held chain).bytes bytes given
-  pub leaves : ((bytes ≡ (held chain).bytes) × IsPartOf chain new)
+  pub makes_it : makes (newest chain).bytes bytes given
+  pub leaves : ((bytes ≡ (newest chain).bytes) × IsPartOf chain new)
       ⊎ ((v : Version) × (v.bytes ≡ bytes) × (new ≡ v ∷ chain))

@@ -6,7 +6,7 @@ use Rattle.cells.specs.declared.deed.Deed.TheVariants.{Answer, Interrupt, Land, 
 
 -- the values that it ever held, the newest first; the swaps that were delayed; and what it makes of
 -- the next calls
-pub record Scripted : Type 0 where
+pub record ScriptedView : Type 0 where
   pub chain : List Version
   pub delayed : List Swap
   pub script : List Deed
@@ -26,7 +26,7 @@ abbrev pub TakesDeed : List Deed → Deed → List Deed → Type 0
 TakesDeed [] next new = (next ≡ Answer) × (new ≡ [])
 TakesDeed (deed ∷ script) next new = (next ≡ deed) × (new ≡ script)
 
-abbrev pub view_of : Scripted → View
+abbrev pub view_of : ScriptedView → View
 view_of cell = record {
   chain = cell.chain;
   may_land = λ s. Contains cell.delayed s ⊎ Interrupts cell.script s;

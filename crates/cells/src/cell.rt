@@ -2,8 +2,8 @@ ghost use Rattle.std.specs.Prelude.{◌≡◌, Bool, true, Some, None};
 ghost use Rattle.cells.specs.Calls.{Reads, Swaps};
 ghost use Rattle.cells.specs.Chain.{View};
 
-use crate::swapped::Swapped;
-use crate::versioned::Versioned;
+use crate::swapped::SwapResult;
+use crate::versioned::VersionedValue;
 use keepers::KeepFault;
 
 /// A value with a revision that several processes share, as a key of an engine with
@@ -18,7 +18,7 @@ pub trait Cell: Drop {
     ghost view: { Self → View };
 
     /// The value that is held. Refuses `Failed` where no answer comes, and `Memory`.
-    fn read(&mut self) -> Result<Versioned, KeepFault>
+    fn read(&mut self) -> Result<VersionedValue, KeepFault>
         // Proved: Between two calls, only swaps that were sent are made, each over the value whose
         // revision it names, of which the next is later; of an answered swap it is told whether it
         // was made.
@@ -26,13 +26,13 @@ pub trait Cell: Drop {
         ensures { is_honest ≡ true → Reads (view self.old) (view self.new) result };
 
     /// Asks for these bytes in place of the value of a revision.
-    fn swap(&mut self, revision: u64, bytes: &[u8]) -> Swapped
+    fn swap(&mut self, revision: u64, bytes: &[u8]) -> SwapResult
         ensures { is_honest ≡ true → Swaps (view self.old)
             (record { over = revision; bytes = Some bytes.now }) (view self.new) result };
 
     /// Asks for a later revision of the value of this one. Once it is answered, no swap that names
     /// this one can be made any more.
-    fn touch(&mut self, revision: u64) -> Swapped
+    fn touch(&mut self, revision: u64) -> SwapResult
         ensures { is_honest ≡ true → Swaps (view self.old)
             (record { over = revision; bytes = None }) (view self.new) result };
 }

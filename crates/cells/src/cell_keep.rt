@@ -1,7 +1,7 @@
 use crate::cell::Cell;
 use crate::holder::Holder;
 use crate::sharing;
-use crate::swapped::Swapped;
+use crate::swapped::SwapResult;
 use keepers::{Keep, KeepFault};
 use std::alloc::Global;
 use std::marker::Model;
@@ -19,9 +19,9 @@ pub struct CellKeep<C: Cell> {
 }
 
 impl<C: Cell> Model for CellKeep<C> {
-    ghost use Rattle.cells.specs.Kept.{Kept};
+    ghost use Rattle.cells.specs.Kept.{CellKeepView};
 
-    ghost Value = { Kept C };
+    ghost Value = { CellKeepView C };
 
     ghost view = { λ a. record {
       cell = a.cell;
@@ -33,8 +33,8 @@ impl<C: Cell> Model for CellKeep<C> {
 
 impl<C: Cell> CellKeep<C> {
     ghost use Rattle.std.specs.Prelude.{◌≡◌, ◌≤◌, false};
-    ghost use Rattle.cells.specs.Chain.{nothing};
-    ghost use Rattle.cells.specs.Keeping.{has_read, idle};
+    ghost use Rattle.cells.specs.Chain.{no_version};
+    ghost use Rattle.cells.specs.Keeping.{has_read, new_holding};
     ghost use Rattle.cells.specs.Kept.{holds};
     ghost use Rattle.keepers.specs.Keeper.{CountRose};
 
@@ -43,7 +43,13 @@ impl<C: Cell> CellKeep<C> {
         // Proved: A keeper over a cell begins with nothing read, or with no value, and tells its
         // cell and whether a conflict was told.
         // By `CellKeep::over_new`, `CellKeep::cell`, `CellKeep::is_conflict`.
-        ensures { result ≡ record { cell = cell; holding = idle; is_conflict = false; count = 0 } }
+        ensures { result ≡ record {
+          cell = cell;
+          holding = new_holding;
+          is_conflict = false;
+          count =
+              0;
+        } }
     {
         CellKeep {
             cell,
@@ -58,7 +64,7 @@ impl<C: Cell> CellKeep<C> {
     pub fn over_new(alloc: Global, cell: C) -> CellKeep<C>
         ensures { result ≡ record {
           cell = cell;
-          holding = has_read nothing;
+          holding = has_read no_version;
           is_conflict = false;
           count = 0;
         } }
@@ -110,7 +116,7 @@ impl<C: Cell> CellKeep<C> {
 impl<C: Cell> Keep for CellKeep<C> {
     ghost use Rattle.std.specs.Prelude.{◌≡◌, ◌<◌, [], false, true, IfOk, IfSome, IsErrOf, OnErr, OnOk};
     ghost use Rattle.cells.specs.Calls.{IsNot, Sends};
-    ghost use Rattle.cells.specs.Chain.{held};
+    ghost use Rattle.cells.specs.Chain.{newest};
     ghost use Rattle.cells.specs.Keeping.{has_read, swap_of};
     ghost use Rattle.cells.specs.Kept.{IsOfLoad, IsOfSave, IsSettled, IsSwapped, holds};
     ghost use Rattle.keepers.specs.Keeper.{CountRose, CountsFailure};
@@ -152,10 +158,10 @@ impl<C: Cell> Keep for CellKeep<C> {
         // be made any more.
         // By `value`, `settled`, `has`, `conflict`, `failures`.
         ensures value { C.is_honest ≡ true → IfOk result (λ bytes.
-            (bytes.items ≡ (held (C.view self.new.cell).chain).bytes)
-            × (0 < (held (C.view self.new.cell).chain).revision)) }
+            (bytes.items ≡ (newest (C.view self.new.cell).chain).bytes)
+            × (0 < (newest (C.view self.new.cell).chain).revision)) }
         ensures has { C.is_honest ≡ true →
-            OnOk result (self.new.holding ≡ has_read (held (C.view self.new.cell).chain)) }
+            OnOk result (self.new.holding ≡ has_read (newest (C.view self.new.cell).chain)) }
         ensures settled { C.is_honest ≡ true → OnOk result
             (IsSettled self.old.holding (C.view self.old.cell) (C.view self.new.cell)) }
         ensures conflict { self.new.is_conflict ≡ false }
@@ -186,7 +192,7 @@ impl<C: Cell> Keep for CellKeep<C> {
         ensures made { C.is_honest ≡ true → holds self.old.holding bytes.now ≡ false →
             OnOk result (IsSwapped self.old.holding bytes.now
             (C.view self.old.cell) (C.view self.new.cell)
-            × (self.new.holding ≡ has_read (held (C.view self.new.cell).chain))) }
+            × (self.new.holding ≡ has_read (newest (C.view self.new.cell).chain))) }
         // Proved: A conflict is told where another came first: these bytes were not made, and what
         // they were to replace is held no longer.
         // By `conflict`, `told`.
@@ -204,12 +210,12 @@ impl<C: Cell> Keep for CellKeep<C> {
             return Ok(());
         }
         match sharing::save(&mut self.cell, &mut self.holder, bytes) {
-            Ok(Swapped::Made(_)) => Ok(()),
-            Ok(Swapped::Other) => {
+            Ok(SwapResult::Made(_)) => Ok(()),
+            Ok(SwapResult::Other) => {
                 self.is_conflict = true;
                 Err(self.fail())
             }
-            Ok(Swapped::Unknown) | Err(KeepFault::Failed) => Err(self.fail()),
+            Ok(SwapResult::Unknown) | Err(KeepFault::Failed) => Err(self.fail()),
             Err(KeepFault::Memory) => Err(KeepFault::Memory),
         }
     }

@@ -2,12 +2,12 @@ use std::marker::Model;
 
 /// A swap that was sent and hasn't come yet (our own).
 #[derive(Drop)]
-pub(crate) struct Delayed {
+pub(crate) struct DelayedSwap {
     over: u64,
     bytes: Option<Vec<u8>>,
 }
 
-impl Model for Delayed {
+impl Model for DelayedSwap {
     ghost use Rattle.std.specs.Prelude.{option_map};
     ghost use Rattle.cells.specs.Chain.{Swap};
 
@@ -16,14 +16,14 @@ impl Model for Delayed {
     ghost view = { λ a. record { over = a.over; bytes = option_map (λ b. b.items) a.bytes } };
 }
 
-impl Delayed {
+impl DelayedSwap {
     ghost use Rattle.std.specs.Prelude.{◌≡◌, option_map};
 
     /// A swap over this revision.
-    pub(crate) fn new(over: u64, bytes: Option<Vec<u8>>) -> Delayed
+    pub(crate) fn new(over: u64, bytes: Option<Vec<u8>>) -> DelayedSwap
         ensures { result ≡ record { over = over; bytes = option_map (λ b. b.items) bytes } }
     {
-        Delayed { over, bytes }
+        DelayedSwap { over, bytes }
     }
 
     /// What it asks.

@@ -3,13 +3,13 @@ ghost use Rattle.std.specs.Prelude.{IfErr, IfOk, IfSome, IsNone, IsSome, OnErr, 
 ghost use Rattle.std.specs.Prelude.{option_map};
 ghost use Rattle.keepers.specs.declared.keep_fault.KeepFault.TheVariants.{Failed};
 ghost use Rattle.cells.specs.Calls.{Goes, Swaps};
-ghost use Rattle.cells.specs.Chain.{held, nothing};
+ghost use Rattle.cells.specs.Chain.{newest, no_version};
 ghost use Rattle.cells.specs.Keeping.{after_swap, after_touch, can_swap, can_touch};
-ghost use Rattle.cells.specs.Keeping.{has_read, idle, swap_of, touch_of};
+ghost use Rattle.cells.specs.Keeping.{has_read, new_holding, swap_of, touch_of};
 
 use crate::cell::Cell;
-use crate::swapped::Swapped;
-use crate::versioned::Versioned;
+use crate::swapped::SwapResult;
+use crate::versioned::VersionedValue;
 use keepers::KeepFault;
 use std::alloc::Global;
 use std::marker::Model;
@@ -20,7 +20,7 @@ use std::marker::Model;
 #[derive(Drop)]
 pub struct Holder {
     alloc: Global,
-    has: Option<Versioned>,
+    has: Option<VersionedValue>,
     is_open: bool,
 }
 
@@ -38,7 +38,7 @@ impl Holder {
         // Proved: A holder begins with nothing read, or with no value, and tells what it has and
         // whether it is open.
         // By `Holder::of_nothing`, `Holder::has`, `Holder::is_open`.
-        ensures { result ≡ idle }
+        ensures { result ≡ new_holding }
     {
         Holder {
             alloc,
@@ -49,17 +49,17 @@ impl Holder {
 
     /// It has read that nothing was ever held.
     pub fn of_nothing(alloc: Global) -> Holder
-        ensures { result ≡ has_read nothing }
+        ensures { result ≡ has_read no_version }
     {
         Holder {
             alloc,
-            has: Some(Versioned::new(0, Vec::new(alloc))),
+            has: Some(VersionedValue::new(0, Vec::new(alloc))),
             is_open: false,
         }
     }
 
     /// What it read or made last.
-    pub fn has(&self) -> Option<&Versioned>
+    pub fn has(&self) -> Option<&VersionedValue>
         ensures { option_map (λ v. v.now) result ≡ self.now.has }
     {
         self.has.as_ref()
@@ -80,10 +80,10 @@ impl Holder {
         ensures goes { C.is_honest ≡ true → self.old.is_open ≡ false →
             Goes (C.view cell.old) (C.view cell.new) }
         ensures ok { C.is_honest ≡ true →
-            OnOk result (self.new ≡ has_read (held (C.view cell.new).chain)) }
+            OnOk result (self.new ≡ has_read (newest (C.view cell.new).chain)) }
         ensures has { OnOk result (IsSome self.new.has) }
         ensures closed { self.new.is_open ≡ self.old.is_open }
-        ensures err { self.old.is_open ≡ false → OnErr result (self.new ≡ idle) }
+        ensures err { self.old.is_open ≡ false → OnErr result (self.new ≡ new_holding) }
     {
         if self.is_open {
             return Err(KeepFault::Failed);
@@ -95,7 +95,7 @@ impl Holder {
 
     /// Asks for these bytes in place of what it has. Refuses `Failed` where it has nothing or is
     /// open, and `Memory`: then nothing is sent.
-    pub fn swap<C: Cell>(&mut self, cell: &mut C, bytes: &[u8]) -> Result<Swapped, KeepFault>
+    pub fn swap<C: Cell>(&mut self, cell: &mut C, bytes: &[u8]) -> Result<SwapResult, KeepFault>
         // Proved: A swap is of what was read or made last. Where another came first its holder has
         // nothing then, and reads again; where no answer comes it is open, and does nothing but
         // touch until that is answered.
@@ -130,16 +130,16 @@ impl Holder {
     }
 
     /// Notes the answer to a swap by these bytes.
-    fn note_swap(&mut self, answer: Swapped, bytes: Vec<u8>)
+    fn note_swap(&mut self, answer: SwapResult, bytes: Vec<u8>)
         ensures { self.new ≡ after_swap answer bytes.items self.old }
     {
         match answer {
-            Swapped::Made(revision) => self.has = Some(Versioned::new(revision, bytes)),
-            Swapped::Other => {
+            SwapResult::Made(revision) => self.has = Some(VersionedValue::new(revision, bytes)),
+            SwapResult::Other => {
                 drop(bytes);
                 self.has = None;
             }
-            Swapped::Unknown => {
+            SwapResult::Unknown => {
                 drop(bytes);
                 self.is_open = true;
             }
@@ -148,7 +148,7 @@ impl Holder {
 
     /// Asks for a later revision of what it has, where a swap of it is open. Once that is answered,
     /// the swap was made or never will be, and it has nothing: it reads again.
-    pub fn touch<C: Cell>(&mut self, cell: &mut C) -> Option<Swapped>
+    pub fn touch<C: Cell>(&mut self, cell: &mut C) -> Option<SwapResult>
         ensures none { IsNone result → (self.new ≡ self.old) × (cell.new ≡ cell.old) }
         ensures some { is_some result ≡ can_touch self.old }
         ensures swaps { C.is_honest ≡ true → IfSome result (λ answer. IfSome self.old.has (λ v.
@@ -174,10 +174,10 @@ impl Holder {
     }
 
     /// Notes the answer to a touch.
-    fn note_touch(&mut self, answer: Swapped)
+    fn note_touch(&mut self, answer: SwapResult)
         ensures { self.new ≡ after_touch answer self.old }
     {
-        if !matches!(answer, Swapped::Unknown) {
+        if !matches!(answer, SwapResult::Unknown) {
             self.has = None;
             self.is_open = false;
         }

@@ -31,5 +31,5 @@ pub use holder::Holder;
 pub use runs::run;
 pub use scripted_cell::ScriptedCell;
 pub use step::Step;
-pub use swapped::Swapped;
-pub use versioned::Versioned;
+pub use swapped::SwapResult;
+pub use versioned::VersionedValue;

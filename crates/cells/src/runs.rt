@@ -2,14 +2,14 @@
 
 ghost use Rattle.std.specs.Prelude.{◌≡◌, ◌<◌, true, length, All, IfOk};
 ghost use Rattle.cells.specs.Chain.{Grows, Swap};
-ghost use Rattle.cells.specs.Keeping.{idle};
+ghost use Rattle.cells.specs.Keeping.{new_holding};
 ghost use Rattle.cells.specs.Runs.{Acts, IsOfHolder, IsRising, history_of};
 
 use crate::act::Act;
 use crate::call::Call;
 use crate::cell::Cell;
 use crate::holder::Holder;
-use crate::versioned::Versioned;
+use crate::versioned::VersionedValue;
 use std::alloc::{AllocError, Global};
 
 /// One call of a holder.
@@ -31,7 +31,7 @@ fn act<C: Cell>(holder: &mut Holder, cell: &mut C, act: &Act)
 }
 
 /// What a holder has.
-fn copy_of(holder: &Holder) -> Result<Option<Versioned>, AllocError>
+fn copy_of(holder: &Holder) -> Result<Option<VersionedValue>, AllocError>
     ensures { IfOk result (λ has. has ≡ holder.now.has) }
 {
     match holder.has() {
@@ -43,7 +43,7 @@ fn copy_of(holder: &Holder) -> Result<Option<Versioned>, AllocError>
 /// So many holders.
 fn idle_holders(alloc: Global, count: usize) -> Result<Vec<Holder>, AllocError>
     ensures count { IfOk result (λ holders. length holders.items ≡ count) }
-    ensures idle { IfOk result (λ holders. All (λ h. h ≡ idle) holders.items) }
+    ensures idle { IfOk result (λ holders. All (λ h. h ≡ new_holding) holders.items) }
 {
     let mut holders = Vec::new(alloc);
     for _ in 0..count {
@@ -61,7 +61,7 @@ pub fn run<C: Cell>(
     cell: &mut C,
     count: usize,
     calls: &[Call],
-) -> Result<Vec<Option<Versioned>>, AllocError>
+) -> Result<Vec<Option<VersionedValue>>, AllocError>
     // Wants: calls of holders that are there.
     requires { All (λ call. call.holder < count) calls.now }
     // Proved: Several holders share a cell, each of whose calls, a read, a swap or a touch, comes

@@ -1,9 +1,9 @@
 use crate::cell::Cell;
 use crate::course::Course;
 use crate::deed::Deed;
-use crate::delayed::Delayed;
-use crate::swapped::Swapped;
-use crate::versioned::Versioned;
+use crate::delayed::DelayedSwap;
+use crate::swapped::SwapResult;
+use crate::versioned::VersionedValue;
 use keepers::KeepFault;
 use std::alloc::{AllocError, Global};
 use std::marker::Model;
@@ -13,15 +13,15 @@ use std::marker::Model;
 #[derive(Drop)]
 pub struct ScriptedCell {
     alloc: Global,
-    chain: Vec<Versioned>,
-    delayed: Vec<Delayed>,
+    chain: Vec<VersionedValue>,
+    delayed: Vec<DelayedSwap>,
     script: Vec<Deed>,
 }
 
 impl Model for ScriptedCell {
-    ghost use Rattle.cells.specs.Scripted.{Scripted};
+    ghost use Rattle.cells.specs.Scripted.{ScriptedView};
 
-    ghost Value = { Scripted };
+    ghost Value = { ScriptedView };
 
     ghost view = { λ a. record {
       chain = a.chain.items;
@@ -34,7 +34,7 @@ impl ScriptedCell {
     ghost use Rattle.std.specs.Prelude.{◌≡◌, ◌≢◌, ◌+◌, ◌-◌, ◌∷◌, [], true, false, Some, length};
     ghost use Rattle.std.specs.Prelude.{IfOk, OnErr, option_map};
     ghost use Rattle.cells.specs.Calls.{Goes, MayMake, Swaps};
-    ghost use Rattle.cells.specs.Chain.{Grows, IsMadeBy, Makes, Version, held};
+    ghost use Rattle.cells.specs.Chain.{Grows, IsMadeBy, Makes, Version, newest};
     ghost use Rattle.cells.specs.Scripted.{TakesDeed, view_of};
 
     /// A cell that never held anything.
@@ -52,7 +52,7 @@ impl ScriptedCell {
     }
 
     /// The values that it ever held, the newest first.
-    pub fn chain(&self) -> &[Versioned]
+    pub fn chain(&self) -> &[VersionedValue]
         ensures { result.now ≡ self.now.chain }
     {
         self.chain.as_slice()
@@ -60,7 +60,7 @@ impl ScriptedCell {
 
     /// The revision that is held.
     fn revision(&self) -> u64
-        ensures { result ≡ (held self.now.chain).revision }
+        ensures { result ≡ (newest self.now.chain).revision }
     {
         match self.chain.first() {
             Some(version) => version.revision(),
@@ -69,12 +69,12 @@ impl ScriptedCell {
     }
 
     /// A copy of what is held.
-    fn copy(&self) -> Result<Versioned, AllocError>
-        ensures { IfOk result (λ version. version ≡ held self.now.chain) }
+    fn copy(&self) -> Result<VersionedValue, AllocError>
+        ensures { IfOk result (λ version. version ≡ newest self.now.chain) }
     {
         match self.chain.first() {
             Some(version) => version.copy(),
-            None => Ok(Versioned::new(0, Vec::new(self.alloc))),
+            None => Ok(VersionedValue::new(0, Vec::new(self.alloc))),
         }
     }
 
@@ -84,9 +84,9 @@ impl ScriptedCell {
             × (self.new ≡ record self.old { chain = v ∷ self.old.chain })
             × (v.revision ≡ over + 1)
             × Makes (record { over = over; bytes = option_map (λ b. b.items) bytes })
-            (held self.old.chain) v) }
+            (newest self.old.chain) v) }
         ensures other { IfOk result (λ made. made ≡ false →
-            (self.new ≡ self.old) × (over ≢ (held self.old.chain).revision)) }
+            (self.new ≡ self.old) × (over ≢ (newest self.old.chain).revision)) }
         ensures err { OnErr result (self.new ≡ self.old) }
     {
         if self.revision() != over {
@@ -101,7 +101,7 @@ impl ScriptedCell {
             Some(bytes) => bytes,
             None => self.copy()?.into_bytes(),
         };
-        self.chain.insert(0, Versioned::new(next, bytes))?;
+        self.chain.insert(0, VersionedValue::new(next, bytes))?;
         Ok(true)
     }
 
@@ -169,15 +169,15 @@ impl ScriptedCell {
     }
 
     /// Answers a swap.
-    fn answer(&mut self, over: u64, bytes: Option<Vec<u8>>) -> Swapped
+    fn answer(&mut self, over: u64, bytes: Option<Vec<u8>>) -> SwapResult
         ensures { Swaps (view_of self.old)
             (record { over = over; bytes = option_map (λ b. b.items) bytes })
             (view_of self.new) result }
     {
         match self.make(over, bytes) {
-            Ok(true) => Swapped::Made(self.revision()),
-            Ok(false) => Swapped::Other,
-            Err(_) => Swapped::Unknown,
+            Ok(true) => SwapResult::Made(self.revision()),
+            Ok(false) => SwapResult::Other,
+            Err(_) => SwapResult::Unknown,
         }
     }
 
@@ -186,11 +186,11 @@ impl ScriptedCell {
         ensures { MayMake (view_of self.old)
             (record { over = over; bytes = option_map (λ b. b.items) bytes }) (view_of self.new) }
     {
-        let _ = self.delayed.push(Delayed::new(over, bytes));
+        let _ = self.delayed.push(DelayedSwap::new(over, bytes));
     }
 
     /// A swap, as the script has it.
-    fn ask(&mut self, over: u64, bytes: Option<Vec<u8>>) -> Swapped
+    fn ask(&mut self, over: u64, bytes: Option<Vec<u8>>) -> SwapResult
         ensures { Swaps (view_of self.old)
             (record { over = over; bytes = option_map (λ b. b.items) bytes })
             (view_of self.new) result }
@@ -203,7 +203,7 @@ impl ScriptedCell {
             Course::Lost => drop(bytes),
             Course::Delayed => self.delay(over, bytes),
         }
-        Swapped::Unknown
+        SwapResult::Unknown
     }
 }
 
@@ -215,7 +215,7 @@ impl Cell for ScriptedCell {
 
     ghost view = { view_of };
 
-    fn read(&mut self) -> Result<Versioned, KeepFault> {
+    fn read(&mut self) -> Result<VersionedValue, KeepFault> {
         if self.begin() != Course::Answered {
             return Err(KeepFault::Failed);
         }
@@ -223,14 +223,14 @@ impl Cell for ScriptedCell {
     }
 
     /// Without memory it is lost.
-    fn swap(&mut self, revision: u64, bytes: &[u8]) -> Swapped {
+    fn swap(&mut self, revision: u64, bytes: &[u8]) -> SwapResult {
         match Vec::from_slice(self.alloc, bytes) {
             Ok(bytes) => self.ask(revision, Some(bytes)),
-            Err(_) => Swapped::Unknown,
+            Err(_) => SwapResult::Unknown,
         }
     }
 
-    fn touch(&mut self, revision: u64) -> Swapped {
+    fn touch(&mut self, revision: u64) -> SwapResult {
         self.ask(revision, None)
     }
 }

@@ -2,13 +2,13 @@
 
 ghost use Rattle.std.specs.Prelude.{◌≡◌, ◌<◌, false, true, IfOk, OnErr, OnOk};
 ghost use Rattle.cells.specs.Calls.{Goes, Sends};
-ghost use Rattle.cells.specs.Chain.{held};
+ghost use Rattle.cells.specs.Chain.{newest};
 ghost use Rattle.cells.specs.Keeping.{has_read};
 ghost use Rattle.cells.specs.Kept.{IsOfLoad, IsOfSave, IsSettled, SavesAs};
 
 use crate::cell::Cell;
 use crate::holder::Holder;
-use crate::swapped::Swapped;
+use crate::swapped::SwapResult;
 use keepers::KeepFault;
 
 /// Touches what a holder has, where a swap of it is open.
@@ -25,10 +25,10 @@ fn settle<C: Cell>(cell: &mut C, holder: &mut Holder)
 fn read_held<C: Cell>(cell: &mut C, holder: &mut Holder) -> Result<Vec<u8>, KeepFault>
     ensures goes { C.is_honest ≡ true → Goes (C.view cell.old) (C.view cell.new) }
     ensures value { C.is_honest ≡ true → IfOk result (λ bytes.
-        (bytes.items ≡ (held (C.view cell.new).chain).bytes)
-        × (0 < (held (C.view cell.new).chain).revision)) }
+        (bytes.items ≡ (newest (C.view cell.new).chain).bytes)
+        × (0 < (newest (C.view cell.new).chain).revision)) }
     ensures has { C.is_honest ≡ true →
-        OnOk result (holder.new ≡ has_read (held (C.view cell.new).chain)) }
+        OnOk result (holder.new ≡ has_read (newest (C.view cell.new).chain)) }
     ensures closed { OnOk result (holder.old.is_open ≡ false) }
 {
     holder.read(cell)?;
@@ -43,10 +43,10 @@ pub(crate) fn load<C: Cell>(cell: &mut C, holder: &mut Holder) -> Result<Vec<u8>
     ensures sends { C.is_honest ≡ true →
         Sends (C.view cell.old) (IsOfLoad holder.old) (C.view cell.new) }
     ensures value { C.is_honest ≡ true → IfOk result (λ bytes.
-        (bytes.items ≡ (held (C.view cell.new).chain).bytes)
-        × (0 < (held (C.view cell.new).chain).revision)) }
+        (bytes.items ≡ (newest (C.view cell.new).chain).bytes)
+        × (0 < (newest (C.view cell.new).chain).revision)) }
     ensures has { C.is_honest ≡ true →
-        OnOk result (holder.new ≡ has_read (held (C.view cell.new).chain)) }
+        OnOk result (holder.new ≡ has_read (newest (C.view cell.new).chain)) }
     ensures settled { C.is_honest ≡ true →
         OnOk result (IsSettled holder.old (C.view cell.old) (C.view cell.new)) }
 {
@@ -60,7 +60,7 @@ pub(crate) fn save<C: Cell>(
     cell: &mut C,
     holder: &mut Holder,
     bytes: &[u8],
-) -> Result<Swapped, KeepFault>
+) -> Result<SwapResult, KeepFault>
     ensures sends { C.is_honest ≡ true →
         Sends (C.view cell.old) (IsOfSave holder.old bytes.now) (C.view cell.new) }
     ensures told { C.is_honest ≡ true → IfOk result
@@ -69,11 +69,11 @@ pub(crate) fn save<C: Cell>(
 {
     let answer = holder.swap(cell, bytes)?;
     match answer {
-        Swapped::Unknown => {
+        SwapResult::Unknown => {
             settle(cell, holder);
-            Ok(Swapped::Unknown)
+            Ok(SwapResult::Unknown)
         }
-        Swapped::Made(revision) => Ok(Swapped::Made(revision)),
-        Swapped::Other => Ok(Swapped::Other),
+        SwapResult::Made(revision) => Ok(SwapResult::Made(revision)),
+        SwapResult::Other => Ok(SwapResult::Other),
     }
 }

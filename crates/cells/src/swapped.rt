@@ -1,6 +1,6 @@
 /// What the answer to a swap tells (our own).
 #[derive(Clone, Copy, Debug, PartialEq, Eq)]
-pub enum Swapped {
+pub enum SwapResult {
     /// It was made: this is the revision of its value.
     Made(u64),
     /// Another came first: it wasn't made, and never will be.

@@ -3,12 +3,12 @@ use std::marker::Model;
 
 /// A value of bytes with its revision (our own).
 #[derive(Drop)]
-pub struct Versioned {
+pub struct VersionedValue {
     revision: u64,
     bytes: Vec<u8>,
 }
 
-impl Model for Versioned {
+impl Model for VersionedValue {
     ghost use Rattle.cells.specs.Chain.{Version};
 
     ghost Value = { Version };
@@ -16,17 +16,17 @@ impl Model for Versioned {
     ghost view = { λ a. record { revision = a.revision; bytes = a.bytes.items } };
 }
 
-impl Versioned {
+impl VersionedValue {
     ghost use Rattle.std.specs.Prelude.{◌≡◌, IfOk};
 
     /// These bytes, of this revision.
-    pub fn new(revision: u64, bytes: Vec<u8>) -> Versioned
+    pub fn new(revision: u64, bytes: Vec<u8>) -> VersionedValue
         // Proved: A value has its revision and its bytes, and a copy the same.
-        // By `Versioned::revision`, `Versioned::bytes`, `Versioned::copy_bytes`,
-        // `Versioned::copy`, `Versioned::into_bytes`.
+        // By `VersionedValue::revision`, `VersionedValue::bytes`, `VersionedValue::copy_bytes`,
+        // `VersionedValue::copy`, `VersionedValue::into_bytes`.
         ensures { result ≡ record { revision = revision; bytes = bytes.items } }
     {
-        Versioned { revision, bytes }
+        VersionedValue { revision, bytes }
     }
 
     /// Its revision.
@@ -51,11 +51,11 @@ impl Versioned {
     }
 
     /// A copy of it, on the allocator of its bytes.
-    pub fn copy(&self) -> Result<Versioned, AllocError>
+    pub fn copy(&self) -> Result<VersionedValue, AllocError>
         ensures { IfOk result (λ copy. copy ≡ self.now) }
     {
         let bytes = self.copy_bytes()?;
-        Ok(Versioned::new(self.revision, bytes))
+        Ok(VersionedValue::new(self.revision, bytes))
     }
 
     /// Its bytes.

@@ -6,7 +6,7 @@ use Rattle.ticket_items.specs.Refusal.{number_of}
 use Rattle.ticket_items.specs.declared.refusal.Refusal.{Refusal}
 use Rattle.ticket_items.specs.declared.refusal.Refusal.TheVariants as refusals
 use Rattle.controller.specs.Reply.{answer_message, answer_to, command_given}
-use Rattle.controller.specs.Step.{Taking, answering}
+use Rattle.controller.specs.Step.{Taking, message_step}
 use Rattle.controller.specs.Words.{is_told, may_be_sent}
 use Rattle.controller.specs.declared.command.Command.{Command}
 use Rattle.controller.specs.declared.message.Message.{Message}
@@ -56,7 +56,7 @@ answers_sent : (name : List ℕ) (m : Message) (at' : ℕ) (result : Result Queu
 answers_sent name m at' result is = answer_sent name m at' result (command_given m.body) is
 
 -- and so may what a controller answers with, refused or not
-pub answering_sends : {S : Type 0} (name : List ℕ) (m : Message) (at' : ℕ) (why : Option Refusal) (w : S) (t : Taking S) → is_told t.told ≡ true
-    → IfSome (answering name m at' why w t).sent (λ a. may_be_sent a.body ≡ true)
-answering_sends name m at' None w t is = answers_sent name m at' t.told is
+pub answering_sends : {S : Type 0} (name : List ℕ) (m : Message) (at' : ℕ) (why : Option Refusal) (w : S) (t : Taking S) → is_told t.response ≡ true
+    → IfSome (message_step name m at' why w t).sent (λ a. may_be_sent a.body ≡ true)
+answering_sends name m at' None w t is = answers_sent name m at' t.response is
 answering_sends name m at' (Some e) w t is = answers_sent name m at' (Err (number_of e)) (number_told e)

@@ -16,17 +16,17 @@ abbrev pub command_given : Body → Option Command
 command_given (Submit p) = Some command.Submit
 command_given (Return p) = Some command.Return
 command_given (Abort s) = Some command.Abort
-command_given (Answer c s told) = None
+command_given (Answer c s response) = None
 
 -- the message by which the controller of a name answers a command, at a time, to the command's
 -- sender
 abbrev pub answer_message : List ℕ → Message → ℕ → Result QueueStatus ℕ → Command → Message
-answer_message name m at told c =
-    record { sender = name; receiver = m.sender; at = at; body = Answer c (spawn_in m.body) told }
+answer_message name m at response c =
+    record { sender = name; receiver = m.sender; at = at; body = Answer c (spawn_in m.body) response }
 
 -- its answer to a message: to a command that message, and to an answer none
 abbrev pub answer_to : List ℕ → Message → ℕ → Result QueueStatus ℕ → Option Message
-answer_to name m at told = option_map (answer_message name m at told) (command_given m.body)
+answer_to name m at response = option_map (answer_message name m at response) (command_given m.body)
 
 -- ---- replies in words
 
@@ -47,21 +47,21 @@ word_of (replies.Ended s) = codes "Ended"
 word_of (replies.Freed s) = codes "Freed"
 
 -- the spawn that a reply tells of
-abbrev pub spawn_told : Reply → Option ℕ
-spawn_told replies.Edited = None
-spawn_told (replies.Spawned s) = Some s
-spawn_told (replies.Sent s) = Some s
-spawn_told (replies.Finished s) = Some s
-spawn_told (replies.Merged s) = Some s
-spawn_told (replies.Already s) = Some s
-spawn_told (replies.Noted s) = Some s
-spawn_told (replies.Taken s) = Some s
-spawn_told (replies.Again s) = Some s
-spawn_told (replies.Acked s) = Some s
-spawn_told (replies.Asked s) = Some s
-spawn_told (replies.Declined s) = Some s
-spawn_told (replies.Ended s) = Some s
-spawn_told (replies.Freed s) = Some s
+abbrev pub spawn_of_reply : Reply → Option ℕ
+spawn_of_reply replies.Edited = None
+spawn_of_reply (replies.Spawned s) = Some s
+spawn_of_reply (replies.Sent s) = Some s
+spawn_of_reply (replies.Finished s) = Some s
+spawn_of_reply (replies.Merged s) = Some s
+spawn_of_reply (replies.Already s) = Some s
+spawn_of_reply (replies.Noted s) = Some s
+spawn_of_reply (replies.Taken s) = Some s
+spawn_of_reply (replies.Again s) = Some s
+spawn_of_reply (replies.Acked s) = Some s
+spawn_of_reply (replies.Asked s) = Some s
+spawn_of_reply (replies.Declined s) = Some s
+spawn_of_reply (replies.Ended s) = Some s
+spawn_of_reply (replies.Freed s) = Some s
 
 -- whether a reply tells that a spawn is freed
 abbrev pub is_freed : Reply → Bool

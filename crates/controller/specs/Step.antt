@@ -20,20 +20,20 @@ pub record Step (S M : Type 0) : Type 0 where
   pub next : S
 
 -- what is refused sends nothing, and changes nothing
-abbrev pub refused : {S M : Type 0} → Refusal → S → Step S M
-refused e s = record { reply = Err e; sent = None; next = s }
+abbrev pub refused_step : {S M : Type 0} → Refusal → S → Step S M
+refused_step e s = record { reply = Err e; sent = None; next = s }
 
 -- the refusal, if there is one, or else the step
 abbrev pub unless_refused : {S M : Type 0} → Option Refusal → S → Step S M → Step S M
-unless_refused why s step = option_map_or (λ e. refused e s) why step
+unless_refused why s step = option_map_or (λ e. refused_step e s) why step
 
 -- the step, with what is made of its message, and with what is made of its state
-abbrev pub sending : {S M N : Type 0} → (M → N) → Step S M → Step S N
-sending f step =
+abbrev pub with_message : {S M N : Type 0} → (M → N) → Step S M → Step S N
+with_message f step =
     record { reply = step.reply; sent = option_map f step.sent; next = step.next }
 
-abbrev pub leading : {S T M : Type 0} → (S → T) → Step S M → Step T M
-leading f step = record { reply = step.reply; sent = step.sent; next = f step.next }
+abbrev pub with_state : {S T M : Type 0} → (S → T) → Step S M → Step T M
+with_state f step = record { reply = step.reply; sent = step.sent; next = f step.next }
 
 -- ---- a message
 
@@ -41,16 +41,16 @@ leading f step = record { reply = step.reply; sent = step.sent; next = f step.ne
 -- queue entry, and the state that it leads to
 pub record Taking (S : Type 0) : Type 0 where
   pub reply : Reply
-  pub told : Result QueueStatus ℕ
+  pub response : Result QueueStatus ℕ
   pub next : S
 
 -- the step of a controller of a name on a message at a time: what comes of it, or the refusal,
 -- which changes nothing. A command is answered, refused or not, and an answer isn't
-abbrev pub answering : {S : Type 0} → List ℕ → Message → ℕ → Option Refusal → S → Taking S
+abbrev pub message_step : {S : Type 0} → List ℕ → Message → ℕ → Option Refusal → S → Taking S
     → Step S Message
-answering name m at None w t =
-    record { reply = Ok t.reply; sent = answer_to name m at t.told; next = t.next }
-answering name m at (Some e) w t =
+message_step name m at None w t =
+    record { reply = Ok t.reply; sent = answer_to name m at t.response; next = t.next }
+message_step name m at (Some e) w t =
     record { reply = Err e; sent = answer_to name m at (Err (number_of e)); next = w }
 
 -- ---- as code tells of it
@@ -68,9 +68,9 @@ abbrev pub reply_of : Result Taken Refusal → Result Reply Refusal
 reply_of (Ok t) = Ok t.reply
 reply_of (Err e) = Err e
 
-abbrev pub told_of : Result Taken Refusal → Result QueueStatus ℕ
-told_of (Ok t) = t.told
-told_of (Err e) = Err (number_of e)
+abbrev pub response_of : Result Taken Refusal → Result QueueStatus ℕ
+response_of (Ok t) = t.response
+response_of (Err e) = Err (number_of e)
 
 -- an order makes a step of a state: it is done as that says, or refused as that is, or else memory
 -- runs out; and what isn't done changes nothing

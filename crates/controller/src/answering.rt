@@ -45,12 +45,12 @@ pub fn answer_to(
     name: &Id,
     message: &Message,
     at: u64,
-    told: Result<QueueStatus, u16>,
+    response: Result<QueueStatus, u16>,
 ) -> Result<Option<Message>, AllocError>
     // Proved: A command is answered to its sender; an answer isn't, which takes no memory.
     // By `answer`, `answers`; `spawn_in`, `command_given`.
     ensures answer { IfOk result (λ answer. answer
-        ≡ replies.answer_to name.now message.now at told) }
+        ≡ replies.answer_to name.now message.now at response) }
     ensures answers { replies.is_answer message.now.body ≡ true → IsOk result }
 {
     match command_given(&message.body) {
@@ -62,7 +62,7 @@ pub fn answer_to(
             body: Body::Answer {
                 of: command,
                 spawn_id: spawn_in(&message.body),
-                result: told,
+                result: response,
             },
         })),
     }
@@ -83,14 +83,14 @@ pub fn outcome_of(
     // By `reply`, `answer`, `answers`.
     ensures reply { IfOk result (λ outcome. outcome.reply ≡ steps.reply_of taken) }
     ensures answer { IfOk result (λ outcome. outcome.answer
-        ≡ replies.answer_to name.now message.now at (steps.told_of taken)) }
+        ≡ replies.answer_to name.now message.now at (steps.response_of taken)) }
     ensures answers { replies.is_answer message.now.body ≡ true → IsOk result }
 {
-    let told = match &taken {
-        Ok(taken) => taken.told,
+    let response = match &taken {
+        Ok(taken) => taken.response,
         Err(refusal) => Err(refusal.number()),
     };
-    let answer = answer_to(alloc, name, message, at, told)?;
+    let answer = answer_to(alloc, name, message, at, response)?;
     Ok(Outcome {
         reply: taken.map(|taken| taken.reply),
         answer,

@@ -15,9 +15,9 @@ impl Command {
     ghost use Rattle.controller.specs.Words as words;
 
     /// The command of a Type.
-    pub fn named(kind: &str) -> Option<Command>
+    pub fn of_type(kind: &str) -> Option<Command>
         // Proved: Words name commands, Statuses and replies.
-        // By `Command::word`, `Command::mark`, `QueueStatus::named`, `QueueStatus::word`,
+        // By `Command::word`, `Command::mark`, `QueueStatus::of_word`, `QueueStatus::word`,
         // `Reply::word`.
         ensures { result ≡ command_named kind.now }
     {

@@ -1,7 +1,7 @@
 ghost use Rattle.std.specs.Prelude.{◌≡◌, ◌≢◌, ℕ, List, Err, true, false};
 ghost use Rattle.std.specs.Prelude.{IfErr, IfOk, IfSome, IsOk, OnErr};
 ghost use Rattle.controller.specs.Reply.{is_freed};
-ghost use Rattle.controller.specs.Step.{Step, done_step, outcome_step, refused};
+ghost use Rattle.controller.specs.Step.{Step, done_step, outcome_step, refused_step};
 ghost use Rattle.controller.specs.Words.{is_answer, may_be_sent};
 ghost use Rattle.controller.specs.declared.message.Message.{Message as MessageSeen};
 ghost use Rattle.ticket_items.specs.declared.refusal.Refusal.TheVariants.{Memory};
@@ -52,7 +52,7 @@ pub trait Controller: Drop {
             (λ _. IfErr result (λ e. e ≡ Memory)) }
         ensures known { IfErr (order_step order at self.old).reply (λ e. e ≢ Memory) }
         ensures idle { IfErr (order_step order at self.old).reply
-            (λ e. order_step order at self.old ≡ refused e self.old) };
+            (λ e. order_step order at self.old ≡ refused_step e self.old) };
 
     /// Takes a message, whoever sent it and whatever it says, at a time in seconds since 1970. The
     /// reply is what it was taken as, or why it was refused. A command is answered, refused or not;

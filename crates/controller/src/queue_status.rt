@@ -15,7 +15,7 @@ impl QueueStatus {
     ghost use Rattle.controller.specs.Words.{status_word};
 
     /// The Status of a word.
-    pub fn named(word: &str) -> Option<QueueStatus>
+    pub fn of_word(word: &str) -> Option<QueueStatus>
         ensures { result ≡ status_named word.now }
     {
         if word == "Running" {

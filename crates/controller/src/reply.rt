@@ -63,7 +63,7 @@ impl Reply {
     pub fn spawn(self) -> Option<SpawnId>
         // Proved: A reply tells its spawn, and a controller its name.
         // By `Controller::name`.
-        ensures { result ≡ replies.spawn_told self }
+        ensures { result ≡ replies.spawn_of_reply self }
     {
         match self {
             Reply::Edited => None,

@@ -7,5 +7,5 @@ pub struct Taken {
     /// What it is taken as.
     pub reply: Reply,
     /// What a command is told: the Status of its queue entry, or the number of a refusal.
-    pub told: Result<QueueStatus, u16>,
+    pub response: Result<QueueStatus, u16>,
 }

@@ -4,7 +4,7 @@ use Rattle.std.specs.Option.{option_map_or}
 use Rattle.ticket_items.specs.declared.refusal.Refusal.{Refusal}
 use Rattle.ticket_items.specs.declared.refusal.Refusal.TheVariants.{BadId, BadText, NotProfile}
 use Rattle.ticket_rows.specs.Ticket.{first_of, unless}
-use Rattle.json_items.specs.Judged.{sound}
+use Rattle.json_items.specs.Validation.{checked_value}
 
 -- a draft of which this is made, and which has no fault
 pub record IsSoundDraft {R X : Type 0} (fault : R → Option Refusal) (made : R → X) (o : Option R) (x : X) : Type 0 where
@@ -13,11 +13,11 @@ pub record IsSoundDraft {R X : Type 0} (fault : R → Option Refusal) (made : R 
   pub sound : fault draft ≡ None
   pub same : made draft ≡ x
 
-of_sound : {R X : Type 0} (fault : R → Option Refusal) (made : R → X) (r : R) (x : X) (f : Option Refusal) → fault r ≡ f → sound f (made r) ≡ Ok x → IsSoundDraft fault made (Some r) x
+of_sound : {R X : Type 0} (fault : R → Option Refusal) (made : R → X) (r : R) (x : X) (f : Option Refusal) → fault r ≡ f → checked_value f (made r) ≡ Ok x → IsSoundDraft fault made (Some r) x
 of_sound fault made r x None is e = record { draft = r; there = refl; sound = is; same = cc }
 of_sound fault made r x (Some f) is e = cc
 
-pub sound_draft : {R X : Type 0} (fault : R → Option Refusal) (made : R → X) (o : Option R) (x : X) → option_map_or (λ r. sound (fault r) (made r)) o (Err NotProfile) ≡ Ok x → IsSoundDraft fault made o x
+pub sound_draft : {R X : Type 0} (fault : R → Option Refusal) (made : R → X) (o : Option R) (x : X) → option_map_or (λ r. checked_value (fault r) (made r)) o (Err NotProfile) ≡ Ok x → IsSoundDraft fault made o x
 sound_draft fault made None x e = cc
 sound_draft fault made (Some r) x e = of_sound fault made r x (fault r) refl e
 

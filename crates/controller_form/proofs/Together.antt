@@ -1,7 +1,7 @@
 -- Parts that are read in turn, and together.
 use Rattle.std.proofs.Common.{◌≡◌, Option, Some, None, refl}
 use Rattle.std.specs.Option.{option_map}
-use Rattle.json_items.specs.Judged.{both_read}
+use Rattle.json_items.specs.Validation.{both_read}
 use Rattle.json_source.specs.Read.{◌>>=◌}
 
 -- three in turn are what the three are together

@@ -10,19 +10,19 @@ use Rattle.serde_json.specs.Data.{Data, no_members, number, object, put, string,
 use Rattle.ticket_items.specs.Refusal.{number_of}
 use Rattle.ticket_items.specs.SpawnId.{is_spawn_number, spawn_text}
 use Rattle.ticket_items.specs.declared.refusal.Refusal.{Refusal}
-use Rattle.ticket_tree.specs.Part.{Copied}
+use Rattle.ticket_tree.specs.Part.{PartCopy}
 use Rattle.json_items.proofs.Again.{more_at}
-use Rattle.json_items.specs.PartDraft.{RawPart, part_draft}
+use Rattle.json_items.specs.PartDraft.{RawPart, part_form as form_of_part}
 use Rattle.json_items.specs.PartForm as part_form
-use Rattle.json_items.specs.PartForm.{copied}
-use Rattle.json_items.specs.Judged.{sound}
-use Rattle.json_items.specs.Listed.{data_items, each}
+use Rattle.json_items.specs.PartForm.{part_of_raw}
+use Rattle.json_items.specs.Validation.{checked_value}
+use Rattle.json_items.specs.Listed.{data_items, items_read}
 use Rattle.json_source.specs.Read.{◌>>=◌}
 use Rattle.json_text.specs.PartWritten.{part_data}
 use Rattle.spawn.proofs.Holding.{find_as}
 use Rattle.worker_core.proofs.KeptStored.{a_kept_worker_is_stored}
 use Rattle.worker_core.specs.Stored.{is_worker}
-use Rattle.worker_core.specs.Worker.{IsKeptEntry, IsKeptPart, Known, end_word, keeps_part, known}
+use Rattle.worker_core.specs.Worker.{IsKeptEntry, IsKeptPart, State, end_word, keeps_part, state}
 use Rattle.worker_core.specs.declared.end.End.{End}
 use Rattle.worker_core.specs.declared.end.End.TheVariants.{Completed, Aborted}
 use Rattle.worker_core.specs.declared.entry.Entry.{Entry}
@@ -30,12 +30,12 @@ use Rattle.worker_core.specs.declared.stage.Stage.{Stage}
 use Rattle.worker_core.specs.declared.stage.Stage.TheVariants.{Open, Done, Closed, Declined}
 use Rattle.controller_form.specs.Orders.EndNamed.{end_named}
 use Rattle.json_items.specs.Spawns.{spawn_named}
-use Rattle.controller_form.specs.States.EntryForm.{closed_draft, declined_draft, entry_data, entry_draft, entry_fault}
-use Rattle.controller_form.specs.States.EntryForm.{entry_has_names, entry_has_texts, entry_in, held_draft, is_told_in, partless_draft}
+use Rattle.controller_form.specs.States.EntryForm.{closed_form, declined_form, entry_data, entry_fault, entry_form}
+use Rattle.controller_form.specs.States.EntryForm.{entry_has_names, entry_has_texts, entry_in, held_form, is_told_in, partless_form}
 use Rattle.controller_form.specs.States.EntryForm.{stage_named, with_id}
 use Rattle.controller_form.specs.States.PartFaults.{part_faults}
 use Rattle.controller_form.specs.States.WorkerForm.{StoredWorker, is_fault, judged_worker, parts_fault}
-use Rattle.controller_form.specs.States.WorkerForm.{worker_built_fault, worker_data, worker_draft}
+use Rattle.controller_form.specs.States.WorkerForm.{worker_built_fault, worker_data, worker_form}
 use Rattle.controller_form.specs.States.WorkerForm.{worker_has_names, worker_in}
 use Rattle.controller_form.specs.States.WorkerForm.{worker_state_in, worker_state_read}
 use Rattle.controller_form.specs.States.Writable.{IsWritableEntry, IsWritablePart, IsWritableWorker}
@@ -66,11 +66,11 @@ no_end_is_declined Aborted = refl
 
 -- ---- an entry with its part
 
-abbrev entry : ℕ → Stage → Option Copied → ℕ → Entry
+abbrev entry : ℕ → Stage → Option PartCopy → ℕ → Entry
 entry s stage part at = record { spawn_id = s; phase = stage; part = part; at = at }
 
 -- its data, with this word of its stage
-abbrev held_data : Format → ℕ → List ℕ → Copied → ℕ → Data
+abbrev held_data : Format → ℕ → List ℕ → PartCopy → ℕ → Data
 held_data format s word p at =
     object (put (codes "Part") (part_data p) (with_id format s (put (codes "Phase") (string word) (put (codes "At") (number (unsigned at)) no_members))))
 
@@ -82,29 +82,29 @@ id_told Second s p = spawn_named (spawn_text s)
 abbrev held : Format → ℕ → Stage → ℕ → RawPart → StoredEntry
 held format s stage at p = record { spawn = id_told format s p; phase = stage; part = Some p; at = at }
 
-held_there : (format : Format) (s : ℕ) (word : List ℕ) (stage : Stage) (p : Copied) (at : ℕ) (raw : RawPart) → stage_named word ≡ Some stage → part_draft (part_data p) ≡ Some raw → held_draft format (held_data format s word p at) ≡ Some (held format s stage at raw)
-unfolding held_draft
+held_there : (format : Format) (s : ℕ) (word : List ℕ) (stage : Stage) (p : PartCopy) (at : ℕ) (raw : RawPart) → stage_named word ≡ Some stage → form_of_part (part_data p) ≡ Some raw → held_form format (held_data format s word p at) ≡ Some (held format s stage at raw)
+unfolding held_form
 held_there First s word stage p at raw named read =
-    ap (λ o. o >>= λ x. part_draft (part_data p) >>= λ q. Some (held First s x at q)) named
+    ap (λ o. o >>= λ x. form_of_part (part_data p) >>= λ q. Some (held First s x at q)) named
     ∙ ap (λ o. o >>= λ q. Some (held First s stage at q)) read
 held_there Second s word stage p at raw named read =
-    ap (λ o. o >>= λ x. part_draft (part_data p) >>= λ q. Some (held Second s x at q)) named
+    ap (λ o. o >>= λ x. form_of_part (part_data p) >>= λ q. Some (held Second s x at q)) named
     ∙ ap (λ o. o >>= λ q. Some (held Second s stage at q)) read
 
-is_held : (s : ℕ) (word : List ℕ) (p : Copied) (at : ℕ) (raw : Option StoredEntry) → bytes_eq (codes "Closed") word ≡ false → bytes_eq (codes "Declined") word ≡ false → held_draft Second (held_data Second s word p at) ≡ raw → entry_draft Second (held_data Second s word p at) ≡ raw
-unfolding entry_draft
+is_held : (s : ℕ) (word : List ℕ) (p : PartCopy) (at : ℕ) (raw : Option StoredEntry) → bytes_eq (codes "Closed") word ≡ false → bytes_eq (codes "Declined") word ≡ false → held_form Second (held_data Second s word p at) ≡ raw → entry_form Second (held_data Second s word p at) ≡ raw
+unfolding entry_form
 is_held s word p at raw open' taken is =
     let d = held_data Second s word p at in
-    ap (λ b. cond b (closed_draft d) (cond (bytes_eq (codes "Declined") word) (declined_draft d) (held_draft Second d))) open'
-    ∙ ap (λ b. cond b (declined_draft d) (held_draft Second d)) taken ∙ is
+    ap (λ b. cond b (closed_form d) (cond (bytes_eq (codes "Declined") word) (declined_form d) (held_form Second d))) open'
+    ∙ ap (λ b. cond b (declined_form d) (held_form Second d)) taken ∙ is
 
-entry_there : (format : Format) (s : ℕ) (word : List ℕ) (stage : Stage) (p : Copied) (at : ℕ) (raw : RawPart) → bytes_eq (codes "Closed") word ≡ false → bytes_eq (codes "Declined") word ≡ false → stage_named word ≡ Some stage → part_draft (part_data p) ≡ Some raw → entry_draft format (held_data format s word p at) ≡ Some (held format s stage at raw)
-unfolding entry_draft
+entry_there : (format : Format) (s : ℕ) (word : List ℕ) (stage : Stage) (p : PartCopy) (at : ℕ) (raw : RawPart) → bytes_eq (codes "Closed") word ≡ false → bytes_eq (codes "Declined") word ≡ false → stage_named word ≡ Some stage → form_of_part (part_data p) ≡ Some raw → entry_form format (held_data format s word p at) ≡ Some (held format s stage at raw)
+unfolding entry_form
 entry_there First s word stage p at raw open' taken named read = held_there First s word stage p at raw named read
 entry_there Second s word stage p at raw open' taken named read = is_held s word p at _ open' taken (held_there Second s word stage p at raw named read)
 
 -- its spawn is that of its part
-id_again : (format : Format) (s : ℕ) (raw : RawPart) (p : Copied) → is_spawn_number s ≡ true → copied raw ≡ p → p.spawn_id ≡ s → id_told format s raw ≡ s
+id_again : (format : Format) (s : ℕ) (raw : RawPart) (p : PartCopy) → is_spawn_number s ≡ true → part_of_raw raw ≡ p → p.spawn_id ≡ s → id_told format s raw ≡ s
 id_again First s raw p numbered same own = ap (λ q. q.spawn_id) same ∙ own
 id_again Second s raw p numbered same own = number_again s numbered
 
@@ -113,13 +113,13 @@ id_again Second s raw p numbered same own = number_again s numbered
 -- the draft that an entry is read as, which has no fault
 record IsRead (format : Format) (e : Entry) : Type 0 where
   raw : StoredEntry
-  there : entry_draft format (entry_data format e) ≡ Some raw
+  there : entry_form format (entry_data format e) ≡ Some raw
   same : entry_in raw ≡ e
   names : entry_has_names raw ≡ true
   texts : entry_has_texts raw ≡ true
   none : entry_fault raw ≡ None
 
-held_read : (format : Format) (s : ℕ) (stage : Stage) (p : Copied) (at : ℕ) → is_spawn_number s ≡ true → p.spawn_id ≡ s → (read : IsSoundDraft part_form.part_fault copied (part_draft (part_data p)) p) → entry_draft format (entry_data format (entry s stage (Some p) at)) ≡ Some (held format s stage at read.draft) → IsRead format (entry s stage (Some p) at)
+held_read : (format : Format) (s : ℕ) (stage : Stage) (p : PartCopy) (at : ℕ) → is_spawn_number s ≡ true → p.spawn_id ≡ s → (read : IsSoundDraft part_form.part_fault part_of_raw (form_of_part (part_data p)) p) → entry_form format (entry_data format (entry s stage (Some p) at)) ≡ Some (held format s stage at read.draft) → IsRead format (entry s stage (Some p) at)
 held_read format s stage p at numbered own read there =
     let passed = all_pass _ _ _ read.sound in
     let id = id_again format s read.draft p numbered read.same own in
@@ -133,7 +133,7 @@ held_read format s stage p at numbered own read there =
     }
 
 closed_read : (s : ℕ) (how : End) (at : ℕ) → is_spawn_number s ≡ true → IsRead Second (entry s (Closed how) None at)
-unfolding entry_draft closed_draft partless_draft
+unfolding entry_form closed_form partless_form
 closed_read s how at numbered =
     let id = number_again s numbered in
     record {
@@ -146,7 +146,7 @@ closed_read s how at numbered =
     }
 
 declined_read : (s at : ℕ) → is_spawn_number s ≡ true → IsRead Second (entry s Declined None at)
-unfolding entry_draft declined_draft partless_draft
+unfolding entry_form declined_form partless_form
 declined_read s at numbered =
     let id = number_again s numbered in
     record {
@@ -158,11 +158,11 @@ declined_read s at numbered =
       none = refl;
     }
 
-read_part : (p : Copied) → IsWritablePart p → IsSoundDraft part_form.part_fault copied (part_draft (part_data p)) p
-read_part p known' = sound_draft part_form.part_fault copied (part_draft (part_data p)) p known'.again
+read_part : (p : PartCopy) → IsWritablePart p → IsSoundDraft part_form.part_fault part_of_raw (form_of_part (part_data p)) p
+read_part p known' = sound_draft part_form.part_fault part_of_raw (form_of_part (part_data p)) p known'.again
 
 -- an entry that a format can tell
-entry_read : (format : Format) (s : ℕ) (stage : Stage) (part : Option Copied) (at : ℕ) → is_some part ≡ keeps_part stage → IfSome part (λ p. p.spawn_id ≡ s) → is_spawn_number s ≡ true → IfSome part IsWritablePart → is_told_in format (entry s stage part at) ≡ true → IsRead format (entry s stage part at)
+entry_read : (format : Format) (s : ℕ) (stage : Stage) (part : Option PartCopy) (at : ℕ) → is_some part ≡ keeps_part stage → IfSome part (λ p. p.spawn_id ≡ s) → is_spawn_number s ≡ true → IfSome part IsWritablePart → is_told_in format (entry s stage part at) ≡ true → IsRead format (entry s stage part at)
 entry_read format s Open (Some p) at has own numbered known' told =
     let read = read_part p known' in
     held_read format s Open p at numbered own read (entry_there format s (codes "Open") Open p at read.draft refl refl refl read.there)
@@ -182,7 +182,7 @@ entry_read format s (Done how) None at has own numbered known' told = cc
 
 record AreRead (format : Format) (es : List Entry) : Type 0 where
   raws : List StoredEntry
-  there : each (entry_draft format) (data_items (entry_data format) es) ≡ Some raws
+  there : items_read (entry_form format) (data_items (entry_data format) es) ≡ Some raws
   same : map entry_in raws ≡ es
   names : list_all entry_has_names raws ≡ true
   texts : list_all entry_has_texts raws ≡ true
@@ -191,7 +191,7 @@ record AreRead (format : Format) (es : List Entry) : Type 0 where
 no_fault : (f : Refusal) (raw : StoredEntry) → entry_fault raw ≡ None → is_fault f raw ≡ false
 no_fault f raw none = ap (λ o. option_map_or (λ g. number_of g == number_of f) o false) none
 
-own_part : (e : Entry) (part : Option Copied) → IfSome part (IsKeptPart e) → IfSome part (λ p. p.spawn_id ≡ e.spawn_id)
+own_part : (e : Entry) (part : Option PartCopy) → IfSome part (IsKeptPart e) → IfSome part (λ p. p.spawn_id ≡ e.spawn_id)
 own_part e None kept = tt
 own_part e (Some p) kept = kept.own
 
@@ -205,7 +205,7 @@ entries_read format (e ∷ es) kept known' told =
     let rest = entries_read format es (All-tail IsKeptEntry e es kept) (All-tail IsWritableEntry e es known') tells.1 in
     record {
       raws = first.raw ∷ rest.raws;
-      there = more_at (entry_draft format (entry_data format e)) first.raw (each (entry_draft format) (data_items (entry_data format) es)) rest.raws first.there rest.there;
+      there = more_at (entry_form format (entry_data format e)) first.raw (items_read (entry_form format) (data_items (entry_data format) es)) rest.raws first.there rest.there;
       same = ap (λ x. x ∷ map entry_in rest.raws) first.same ∙ ap (λ xs. e ∷ xs) rest.same;
       names = and_from _ _ first.names rest.names;
       texts = and_from _ _ first.texts rest.texts;
@@ -222,25 +222,25 @@ all_told (e ∷ es) = all_told es
 none_among : (raws : List StoredEntry) → ((f : Refusal) → list_any (is_fault f) raws ≡ false) → parts_fault raws ≡ None
 none_among raws none = find_as (λ f. list_any (is_fault f) raws) (λ f. false) none part_faults
 
-abbrev raw : Known → List StoredEntry → StoredWorker
+abbrev raw : State → List StoredEntry → StoredWorker
 raw w raws = record { name = w.name; master = w.master; entries = raws }
 
-drafted : (format : Format) (w : Known) (raws : List StoredEntry) → each (entry_draft format) (data_items (entry_data format) w.entries) ≡ Some raws → worker_draft format (worker_data format w) ≡ Some (raw w raws)
-unfolding worker_draft
+drafted : (format : Format) (w : State) (raws : List StoredEntry) → items_read (entry_form format) (data_items (entry_data format) w.entries) ≡ Some raws → worker_form format (worker_data format w) ≡ Some (raw w raws)
+unfolding worker_form
 drafted format w raws read = ap (λ o. o >>= λ entries. Some (raw w entries)) read
 
-judged : (format : Format) (w : Known) → IsWritableWorker w → list_all (is_told_in format) w.entries ≡ true → judged_worker (worker_draft format (worker_data format w)) ≡ Ok w
+judged : (format : Format) (w : State) → IsWritableWorker w → list_all (is_told_in format) w.entries ≡ true → judged_worker (worker_form format (worker_data format w)) ≡ Ok w
 judged format w known' told =
     let read = entries_read format w.entries known'.kept.each known'.entries told in
     let raws = read.raws in
-    let is : worker_in (raw w raws) ≡ w = ap (known w.name w.master) read.same in
+    let is : worker_in (raw w raws) ≡ w = ap (state w.name w.master) read.same in
     let names : worker_has_names (raw w raws) ≡ true = and_from _ _ (and_from _ _ known'.name known'.master) read.names in
     let stored : is_worker (worker_in (raw w raws)) ≡ true = ap is_worker is ∙ a_kept_worker_is_stored w known'.kept in
     let built : worker_built_fault (raw w raws) ≡ None = nothing true _ _ refl (none_among raws read.none) stored in
     ap judged_worker (drafted format w raws read.there)
-    ∙ ap (λ f. sound f (worker_in (raw w raws))) (nothing_wrong _ _ _ names read.texts built)
+    ∙ ap (λ f. checked_value f (worker_in (raw w raws))) (nothing_wrong _ _ _ names read.texts built)
     ∙ ap (λ k. Ok k) is
 
-pub worker_again : (format : Format) (w : Known) → IsWritableWorker w → list_all (is_told_in format) w.entries ≡ true → worker_state_read (worker_state_in format w) ≡ Ok w
+pub worker_again : (format : Format) (w : State) → IsWritableWorker w → list_all (is_told_in format) w.entries ≡ true → worker_state_read (worker_state_in format w) ≡ Ok w
 worker_again First w known' told = judged First w known' told
 worker_again Second w known' told = judged Second w known' told

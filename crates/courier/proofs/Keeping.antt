@@ -3,7 +3,7 @@ use Rattle.std.proofs.Common.{◌≡◌, ⊎_elim, Option, Some, None, option_ma
 use Rattle.std.proofs.lemmas.Bool.{cases_eq, and_from, and_parts, and_right, eqb-true, eq-eqb, false_from_ne_true, ltb-false, ltb-true, ne_eqb}
 use Rattle.std.proofs.lemmas.Grind.{common_steps, elements}
 use Rattle.std.proofs.lemmas.List.Sums.{count_by-le-length, sum_by-set, sum_by_push}
-use Rattle.courier.specs.Destination.{Destination, IsPaced, heard, new_at, waits, with_item}
+use Rattle.courier.specs.Destination.{Destination, IsPaced, after_hearing, new_at, waits, with_item}
 use Rattle.courier.specs.Table.{AreTried, IsKept, IsNext, IsQuiet, IsWake, destination_at, flies_at, has_turn, turn_at, waits_at}
 use Rattle.courier.specs.Turns.{IsBefore, IsFirstOfAll, IsMoved, IsTaken, Joins, Leaves, NoneIsDue, Turns, is_turn, one_if, times}
 use Rattle.courier.specs.declared.turn.Turn.{Turn}
@@ -130,8 +130,8 @@ turn-once ds schedule line kept waiting =
     let has = and_from (waits_at ds line) ((destination_at ds line).due == (destination_at ds line).due) waiting (eq-eqb (destination_at ds line).due _ refl) in
     kept.scheduled (turn_at ds line) ∙ ap one_if has
 
-heard-its : (now : ℕ) (d : Destination) (line : ℕ) (turn : Turn) → (waits d && nat_lt now d.due) ≡ false → is_its (heard now d) line turn ≡ is_its d line turn
-heard-its now d line turn idle = by (waits d) idle
+after_hearing-its : (now : ℕ) (d : Destination) (line : ℕ) (turn : Turn) → (waits d && nat_lt now d.due) ≡ false → is_its (after_hearing now d) line turn ≡ is_its d line turn
+after_hearing-its now d line turn idle = by (waits d) idle
   where
     by : (b : Bool) → (b && nat_lt now d.due) ≡ false → (b && is_turn turn (record { due = min d.due now; line = line })) ≡ (b && is_turn turn (record { due = d.due; line = line }))
     by true idle =
@@ -140,20 +140,20 @@ heard-its now d line turn idle = by (waits d) idle
         ap (λ due. is_turn turn (record { due = due; line = line })) same
     by false idle = refl
 
-pub IsKept-idle : (ds : List Destination) (line now : ℕ) (schedule : Turns) → line < length ds → IsPaced (heard now (destination_at ds line)) → IsKept ds schedule → (waits_at ds line && nat_lt now (destination_at ds line).due) ≡ false → IsKept (slice_set ds line (heard now (destination_at ds line))) schedule
+pub IsKept-idle : (ds : List Destination) (line now : ℕ) (schedule : Turns) → line < length ds → IsPaced (after_hearing now (destination_at ds line)) → IsKept ds schedule → (waits_at ds line && nat_lt now (destination_at ds line).due) ≡ false → IsKept (slice_set ds line (after_hearing now (destination_at ds line))) schedule
 IsKept-idle ds line now schedule within paced kept idle =
     let d = destination_at ds line in
-    IsKept-changed ds line (heard now d) schedule schedule within paced kept
-    (λ q. omega (arith, ap one_if (heard-its now d line q idle)))
+    IsKept-changed ds line (after_hearing now d) schedule schedule within paced kept
+    (λ q. omega (arith, ap one_if (after_hearing-its now d line q idle)))
     (omega arith) (omega arith)
 
-pub IsKept-moved : (ds : List Destination) (line now : ℕ) (old after : Turns) → line < length ds → IsPaced (heard now (destination_at ds line)) → IsKept ds old → (waits_at ds line && nat_lt now (destination_at ds line).due) ≡ true → IsMoved (turn_at ds line) now old after → IsKept (slice_set ds line (heard now (destination_at ds line))) after
+pub IsKept-moved : (ds : List Destination) (line now : ℕ) (old after : Turns) → line < length ds → IsPaced (after_hearing now (destination_at ds line)) → IsKept ds old → (waits_at ds line && nat_lt now (destination_at ds line).due) ≡ true → IsMoved (turn_at ds line) now old after → IsKept (slice_set ds line (after_hearing now (destination_at ds line))) after
 IsKept-moved ds line now old after within paced kept ends moved =
     let d = destination_at ds line in
     let parts = and_parts (waits d) (nat_lt now d.due) ends in
     let high = ltb-true now d.due parts.1 in
     let due : min d.due now ≡ now = omega arith in
-    IsKept-changed ds line (heard now d) old after within paced kept
+    IsKept-changed ds line (after_hearing now d) old after within paced kept
     (λ q. omega (arith, moved.counted q, ap₂ (λ w k. one_if (w && is_turn q (record { due = k; line = line }))) parts.0 due, ap (λ w. one_if (w && is_turn q (turn_at ds line))) parts.0))
     (omega (arith, moved.many)) moved.kept
 

@@ -8,11 +8,11 @@ use Rattle.std.specs.List.{list_any}
 use Rattle.courier.proofs.Differing.{has-push, has-turned}
 use Rattle.courier.proofs.Keeping.{at-changed, at-other, flies-within, idle-flying}
 use Rattle.courier.specs.declared.TheConstants.{FIRST_DELAY, LAST_DELAY}
-use Rattle.courier.specs.Destination.{Destination, begun, failed, heard, new_at, settled, withdrawn, with_item}
+use Rattle.courier.specs.Destination.{Destination, after_answer, after_failed_try, after_hearing, after_start, after_withdrawal, new_at, with_item}
 use Rattle.courier.specs.Items.{all_differ, has}
 use Rattle.courier.specs.Laws.{DelaysDouble, EachComesNearer, HeardWaitsAnew, NoneComesBack, OneAtOnce}
 use Rattle.courier.specs.Runs.{Step, Add, Put, Give, Fail, Settle, Withdraw, Hear, Allows, IsRun, after, after_all, ends, gives, gives_item, puts_item}
-use Rattle.courier.specs.Table.{changed, destination_at, flies_at, is_out, put, waits_at}
+use Rattle.courier.specs.Table.{destination_at, flies_at, is_out, put, waits_at, with_changed}
 use Rattle.courier.specs.Turns.{one_if}
 
 -- ---- at a destination
@@ -23,23 +23,23 @@ at-added P [] now (suc line) old new = old
 at-added P (d ∷ ds) now zero old new = old
 at-added P (d ∷ ds) now (suc line) old new = at-added P ds now line old new
 
-pub at-step : (P : Destination → Type 0) (f : Destination → Destination) (ds : List Destination) (k line : ℕ) → k < length ds → P (destination_at ds line) → (k ≡ line → P (f (destination_at ds line))) → P (destination_at (changed f ds k) line)
+pub at-step : (P : Destination → Type 0) (f : Destination → Destination) (ds : List Destination) (k line : ℕ) → k < length ds → P (destination_at ds line) → (k ≡ line → P (f (destination_at ds line))) → P (destination_at (with_changed f ds k) line)
 at-step P f ds k line within old new =
     ⊎_elim
-    (λ here. subst (λ j. P (destination_at (changed f ds k) j)) here (subst P (sym (at-changed ds k (f (destination_at ds k)) within)) (subst (λ j. P (f (destination_at ds j))) (sym here) (new here))))
+    (λ here. subst (λ j. P (destination_at (with_changed f ds k) j)) here (subst P (sym (at-changed ds k (f (destination_at ds k)) within)) (subst (λ j. P (f (destination_at ds j))) (sym here) (new here))))
     (λ other. subst P (sym (at-other ds k line (f (destination_at ds k)) (λ here. other (sym here)))) old)
     (cases_eq k line)
 
 pub at-put : (P : Destination → Type 0) (item : ℕ) (ds : List Destination) (k line : ℕ) → k < length ds → P (destination_at ds line) → (k ≡ line → P (with_item item (destination_at ds line))) → P (destination_at (put item ds k) line)
 at-put P item ds k line within old new =
-    cond_both (is_out ds k item) ds (changed (with_item item) ds k) (λ all. P (destination_at all line)) (λ _. old) (λ _. at-step P (with_item item) ds k line within old new)
+    cond_both (is_out ds k item) ds (with_changed (with_item item) ds k) (λ all. P (destination_at all line)) (λ _. old) (λ _. at-step P (with_item item) ds k line within old new)
 
 -- a destination is heard from, if it is there
-pub at-heard : (P : Destination → Type 0) (now : ℕ) (ds : List Destination) (k line : ℕ) → P (destination_at ds line) → (k ≡ line → P (heard now (destination_at ds line))) → P (destination_at (changed (heard now) ds k) line)
-at-heard P now ds k line old new =
+pub at-after_hearing : (P : Destination → Type 0) (now : ℕ) (ds : List Destination) (k line : ℕ) → P (destination_at ds line) → (k ≡ line → P (after_hearing now (destination_at ds line))) → P (destination_at (with_changed (after_hearing now) ds k) line)
+at-after_hearing P now ds k line old new =
     ⊎_elim
-    (λ within. at-step P (heard now) ds k line within old new)
-    (λ past. subst (λ all. P (destination_at all line)) (sym (set_past ds k (heard now (destination_at ds k)) past)) old)
+    (λ within. at-step P (after_hearing now) ds k line within old new)
+    (λ past. subst (λ all. P (destination_at all line)) (sym (set_past ds k (after_hearing now (destination_at ds k)) past)) old)
     (cases_lt k (length ds))
 
 -- ---- one at once
@@ -47,11 +47,11 @@ at-heard P now ds k line old new =
 flies-after : (line : ℕ) (step : Step) (ds : List Destination) → flies_at ds line ≡ true → Allows ds step → ends line step ≡ false → flies_at (after ds step) line ≡ true
 flies-after line (Add now) ds flies allowed still = at-added (λ d. d.flying ≡ true) ds now line flies (λ new. absurd (true≢false (sym flies ∙ ap (λ d. d.flying) new)))
 flies-after line (Put item k) ds flies allowed still = at-put (λ d. d.flying ≡ true) item ds k line allowed flies (λ _. flies)
-flies-after line (Give now flight) ds flies allowed still = at-step (λ d. d.flying ≡ true) begun ds flight.line line allowed.within flies (λ _. refl)
-flies-after line (Fail k now) ds flies allowed still = at-step (λ d. d.flying ≡ true) (failed now) ds k line (flies-within ds k allowed) flies (λ here. absurd (both_ways _ still (eq-eqb k line here)))
-flies-after line (Settle k now) ds flies allowed still = at-step (λ d. d.flying ≡ true) (settled now) ds k line (flies-within ds k allowed) flies (λ here. absurd (both_ways _ still (eq-eqb k line here)))
-flies-after line (Withdraw k) ds flies allowed still = at-step (λ d. d.flying ≡ true) withdrawn ds k line (flies-within ds k allowed) flies (λ here. absurd (both_ways _ still (eq-eqb k line here)))
-flies-after line (Hear k now) ds flies allowed still = at-heard (λ d. d.flying ≡ true) now ds k line flies (λ _. flies)
+flies-after line (Give now flight) ds flies allowed still = at-step (λ d. d.flying ≡ true) after_start ds flight.line line allowed.within flies (λ _. refl)
+flies-after line (Fail k now) ds flies allowed still = at-step (λ d. d.flying ≡ true) (after_failed_try now) ds k line (flies-within ds k allowed) flies (λ here. absurd (both_ways _ still (eq-eqb k line here)))
+flies-after line (Settle k now) ds flies allowed still = at-step (λ d. d.flying ≡ true) (after_answer now) ds k line (flies-within ds k allowed) flies (λ here. absurd (both_ways _ still (eq-eqb k line here)))
+flies-after line (Withdraw k) ds flies allowed still = at-step (λ d. d.flying ≡ true) after_withdrawal ds k line (flies-within ds k allowed) flies (λ here. absurd (both_ways _ still (eq-eqb k line here)))
+flies-after line (Hear k now) ds flies allowed still = at-after_hearing (λ d. d.flying ≡ true) now ds k line flies (λ _. flies)
 
 gives-not : (line : ℕ) (step : Step) (ds : List Destination) → flies_at ds line ≡ true → Allows ds step → gives line step ≡ false
 gives-not line (Add now) ds flies allowed = refl
@@ -70,8 +70,8 @@ none-given line (step ∷ steps) ds flies run still =
 
 pub one-at-once : OneAtOnce
 one-at-once ds now flight steps run still =
-    let flies = ap (λ d. d.flying) (at-changed ds flight.line (begun (destination_at ds flight.line)) run.0.within) in
-    none-given flight.line steps (changed begun ds flight.line) flies run.1 still
+    let flies = ap (λ d. d.flying) (at-changed ds flight.line (after_start (destination_at ds flight.line)) run.0.within) in
+    none-given flight.line steps (with_changed after_start ds flight.line) flies run.1 still
 
 -- ---- none comes back
 
@@ -95,11 +95,11 @@ out-after line item (Put other k) ds out allowed idle =
     at-put (λ d. has item d.items ≡ false) other ds k line allowed out (λ here.
     let differs = ap (λ b. b && other == item) (sym (eq-eqb k line here)) ∙ idle in
     has-push item other (destination_at ds line).items ∙ or_from _ (other == item) out differs)
-out-after line item (Give now flight) ds out allowed idle = at-step (λ d. has item d.items ≡ false) begun ds flight.line line allowed.within out (λ _. out)
-out-after line item (Fail k now) ds out allowed idle = at-step (λ d. has item d.items ≡ false) (failed now) ds k line (flies-within ds k allowed) out (λ _. has-turned item (destination_at ds line).items ∙ out)
-out-after line item (Settle k now) ds out allowed idle = at-step (λ d. has item d.items ≡ false) (settled now) ds k line (flies-within ds k allowed) out (λ _. has-dropped item (destination_at ds line).items out)
-out-after line item (Withdraw k) ds out allowed idle = at-step (λ d. has item d.items ≡ false) withdrawn ds k line (flies-within ds k allowed) out (λ _. has-dropped item (destination_at ds line).items out)
-out-after line item (Hear k now) ds out allowed idle = at-heard (λ d. has item d.items ≡ false) now ds k line out (λ _. out)
+out-after line item (Give now flight) ds out allowed idle = at-step (λ d. has item d.items ≡ false) after_start ds flight.line line allowed.within out (λ _. out)
+out-after line item (Fail k now) ds out allowed idle = at-step (λ d. has item d.items ≡ false) (after_failed_try now) ds k line (flies-within ds k allowed) out (λ _. has-turned item (destination_at ds line).items ∙ out)
+out-after line item (Settle k now) ds out allowed idle = at-step (λ d. has item d.items ≡ false) (after_answer now) ds k line (flies-within ds k allowed) out (λ _. has-dropped item (destination_at ds line).items out)
+out-after line item (Withdraw k) ds out allowed idle = at-step (λ d. has item d.items ≡ false) after_withdrawal ds k line (flies-within ds k allowed) out (λ _. has-dropped item (destination_at ds line).items out)
+out-after line item (Hear k now) ds out allowed idle = at-after_hearing (λ d. has item d.items ≡ false) now ds k line out (λ _. out)
 
 gives-other : (line item : ℕ) (step : Step) (ds : List Destination) → is_out ds line item ≡ false → Allows ds step → gives_item line item step ≡ false
 gives-other line item (Add now) ds out allowed = refl
@@ -125,8 +125,8 @@ none-comes-back ds line now item steps paced first run idle =
     let within = flies-within ds line run.0 in
     let d = destination_at ds line in
     let gone = gone-first item d.items (paced line (new_at 0) within).differ first in
-    let out = ap (λ e. has item e.items) (at-changed ds line (settled now d) within) ∙ gone in
-    none-back line item steps (changed (settled now) ds line) out run.1 idle
+    let out = ap (λ e. has item e.items) (at-changed ds line (after_answer now d) within) ∙ gone in
+    none-back line item steps (with_changed (after_answer now) ds line) out run.1 idle
 
 -- ---- each comes nearer
 
@@ -146,14 +146,14 @@ get-turned (x ∷ items) place item there = get-push items x place item there
 abbrev Stands : ℕ → ℕ → Destination → Type 0
 Stands place item d = slice_get d.items place ≡ Some item
 
-at-end : (f : Destination → Destination) (ds : List Destination) (k line old new item : ℕ) → ((d : Destination) (p : ℕ) → Stands (suc p) item d → Stands p item (f d)) → flies_at ds k ≡ true → Stands old item (destination_at ds line) → old ≡ new + one_if (k == line) → Stands new item (destination_at (changed f ds k) line)
+at-end : (f : Destination → Destination) (ds : List Destination) (k line old new item : ℕ) → ((d : Destination) (p : ℕ) → Stands (suc p) item d → Stands p item (f d)) → flies_at ds k ≡ true → Stands old item (destination_at ds line) → old ≡ new + one_if (k == line) → Stands new item (destination_at (with_changed f ds k) line)
 at-end f ds k line old new item nearer flies there moved =
     ⊎_elim
     (λ here.
     let first = ap one_if (eq-eqb k line here) in
     let behind : old ≡ suc new = omega arith in
     let step = nearer (destination_at ds line) new (subst (λ p. Stands p item (destination_at ds line)) behind there) in
-    subst (λ j. Stands new item (destination_at (changed f ds k) j)) here (subst (Stands new item) (sym (at-changed ds k (f (destination_at ds k)) (flies-within ds k flies))) (subst (λ j. Stands new item (f (destination_at ds j))) (sym here) step)))
+    subst (λ j. Stands new item (destination_at (with_changed f ds k) j)) here (subst (Stands new item) (sym (at-changed ds k (f (destination_at ds k)) (flies-within ds k flies))) (subst (λ j. Stands new item (f (destination_at ds j))) (sym here) step)))
     (λ other.
     let none = ap one_if (ne_eqb k line other) in
     let same : old ≡ new = omega arith in
@@ -172,14 +172,14 @@ place-after line old new item (Put other k) ds there allowed moved =
 place-after line old new item (Give now flight) ds there allowed moved =
     let same : old ≡ new = omega arith in
     let stays = subst (λ p. Stands p item (destination_at ds line)) same there in
-    at-step (Stands new item) begun ds flight.line line allowed.within stays (λ _. stays)
-place-after line old new item (Fail k now) ds there allowed moved = at-end (failed now) ds k line old new item (λ d p. get-turned d.items p item) allowed there moved
-place-after line old new item (Settle k now) ds there allowed moved = at-end (settled now) ds k line old new item (λ d p. get-dropped d.items p item) allowed there moved
-place-after line old new item (Withdraw k) ds there allowed moved = at-end withdrawn ds k line old new item (λ d p. get-dropped d.items p item) allowed there moved
+    at-step (Stands new item) after_start ds flight.line line allowed.within stays (λ _. stays)
+place-after line old new item (Fail k now) ds there allowed moved = at-end (after_failed_try now) ds k line old new item (λ d p. get-turned d.items p item) allowed there moved
+place-after line old new item (Settle k now) ds there allowed moved = at-end (after_answer now) ds k line old new item (λ d p. get-dropped d.items p item) allowed there moved
+place-after line old new item (Withdraw k) ds there allowed moved = at-end after_withdrawal ds k line old new item (λ d p. get-dropped d.items p item) allowed there moved
 place-after line old new item (Hear k now) ds there allowed moved =
     let same : old ≡ new = omega arith in
     let stays = subst (λ p. Stands p item (destination_at ds line)) same there in
-    at-heard (Stands new item) now ds k line stays (λ _. stays)
+    at-after_hearing (Stands new item) now ds k line stays (λ _. stays)
 
 nearer : (line left item : ℕ) (steps : List Step) (ds : List Destination) → Stands (left + count_by (ends line) steps) item (destination_at ds line) → IsRun ds steps → Stands left item (destination_at (after_all ds steps) line)
 nearer line left item [] ds there run =
@@ -198,15 +198,15 @@ each-comes-nearer ds line left item steps there run = nearer line left item step
 min-twice : (a : ℕ) → min (2 * min a LAST_DELAY) LAST_DELAY ≡ min (2 * a) LAST_DELAY
 min-twice a = omega arith
 
-doubled : (failures : List ℕ) (d : Destination) (a : ℕ) → d.delay ≡ min a LAST_DELAY → (fold (λ d now. failed now d) d failures).delay ≡ min (a * 2 ^ length failures) LAST_DELAY
+doubled : (failures : List ℕ) (d : Destination) (a : ℕ) → d.delay ≡ min a LAST_DELAY → (fold (λ d now. after_failed_try now d) d failures).delay ≡ min (a * 2 ^ length failures) LAST_DELAY
 doubled [] d a delay = delay ∙ ap (λ x. min x LAST_DELAY) (omega arith)
 doubled (now ∷ failures) d a delay =
     let power = 2 ^ length failures in
     let whole = mul_assoc 2 a power ∙ sym (mul_left_comm a 2 power) ∙ ap (λ x. a * x) (sym (pow-succ' 2 (length failures))) in
-    doubled failures (failed now d) (2 * a) (ap (λ x. min (2 * x) LAST_DELAY) delay ∙ min-twice a) ∙ ap (λ x. min x LAST_DELAY) whole
+    doubled failures (after_failed_try now d) (2 * a) (ap (λ x. min (2 * x) LAST_DELAY) delay ∙ min-twice a) ∙ ap (λ x. min x LAST_DELAY) whole
 
 pub delays-double : DelaysDouble
-delays-double d now failures = doubled failures (settled now d) FIRST_DELAY refl
+delays-double d now failures = doubled failures (after_answer now d) FIRST_DELAY refl
 
-pub heard-waits-anew : HeardWaitsAnew
-heard-waits-anew d now later = refl
+pub after_hearing-waits-anew : HeardWaitsAnew
+after_hearing-waits-anew d now later = refl

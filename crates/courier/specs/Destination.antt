@@ -32,12 +32,12 @@ abbrev pub with_item : ℕ → Destination → Destination
 with_item item d = record d { items = d.items ++ item ∷ [] }
 
 -- the first is in flight
-abbrev pub begun : Destination → Destination
-begun d = record d { flying = true }
+abbrev pub after_start : Destination → Destination
+after_start d = record d { flying = true }
 
 -- the try failed: its item goes behind the others, and the next waits, twice as long each time
-abbrev pub failed : ℕ → Destination → Destination
-failed now d =
+abbrev pub after_failed_try : ℕ → Destination → Destination
+after_failed_try now d =
     record {
       items = drop 1 d.items ++ take 1 d.items;
       flying = false;
@@ -47,8 +47,8 @@ failed now d =
     }
 
 -- it was answered: its item is out no longer, and the next may be sent at once
-abbrev pub settled : ℕ → Destination → Destination
-settled now d =
+abbrev pub after_answer : ℕ → Destination → Destination
+after_answer now d =
     record {
       items = drop 1 d.items;
       flying = false;
@@ -58,12 +58,12 @@ settled now d =
     }
 
 -- it was heard from: the next may be sent at once, and a failure waits the first delay again
-abbrev pub heard : ℕ → Destination → Destination
-heard now d = record d { due = min d.due now; delay = FIRST_DELAY }
+abbrev pub after_hearing : ℕ → Destination → Destination
+after_hearing now d = record d { due = min d.due now; delay = FIRST_DELAY }
 
 -- it wasn't sent, since it is out no longer
-abbrev pub withdrawn : Destination → Destination
-withdrawn d = record d { items = drop 1 d.items; flying = false }
+abbrev pub after_withdrawal : Destination → Destination
+after_withdrawal d = record d { items = drop 1 d.items; flying = false }
 
 -- what always holds: a delay is one of the allowed, the next is due no later than the longest delay
 -- behind the last try, what is in flight is out, and nothing is out twice

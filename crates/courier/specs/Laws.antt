@@ -4,7 +4,8 @@ use Rattle.std.specs.Prelude.{List, ◌∷◌, length, fold, All, count_by, Opti
 use Rattle.std.specs.List.{list_all, list_any}
 use Rattle.courier.specs.declared.TheConstants.{FIRST_DELAY, LAST_DELAY}
 use Rattle.courier.specs.declared.flight.Flight.{Flight}
-use Rattle.courier.specs.Destination.{Destination, IsPaced, failed, heard, settled}
+use Rattle.courier.specs.Destination.{Destination, IsPaced, after_answer, after_failed_try}
+use Rattle.courier.specs.Destination.{after_hearing}
 use Rattle.courier.specs.Runs.{Step, Give, Hear, Settle, IsRun, after_all}
 use Rattle.courier.specs.Runs.{ends, gives, gives_item, is_later, puts_item, withdraws}
 use Rattle.courier.specs.Table.{IsNextOrQuiet, destination_at, waits_at}
@@ -38,8 +39,8 @@ EachComesNearer =
 
 -- what fails goes behind the others, of which none is lost
 pub record GoesBehind (d : Destination) (now item : ℕ) : Type 0 where
-  pub last : slice_get (failed now d).items (length d.items - 1) ≡ Some item
-  pub many : length (failed now d).items ≡ length d.items
+  pub last : slice_get (after_failed_try now d).items (length d.items - 1) ≡ Some item
+  pub many : length (after_failed_try now d).items ≡ length d.items
 
 abbrev pub WhatFailsGoesBehind : Type 0
 WhatFailsGoesBehind =
@@ -49,7 +50,7 @@ WhatFailsGoesBehind =
 abbrev pub DelaysDouble : Type 0
 DelaysDouble =
     (d : Destination) (now : ℕ) (failures : List ℕ)
-    → (fold (λ d now. failed now d) (settled now d) failures).delay
+    → (fold (λ d now. after_failed_try now d) (after_answer now d) failures).delay
     ≡ min (FIRST_DELAY * 2 ^ length failures) LAST_DELAY
 
 -- while a destination waits whose moment has passed, each other is given at most once, and once
@@ -79,4 +80,4 @@ WhatIsHeardIsGiven =
 abbrev pub HeardWaitsAnew : Type 0
 HeardWaitsAnew =
     (d : Destination) (now later : ℕ)
-    → (failed later (heard now d)).due ≡ min (later + FIRST_DELAY) (2 ^ 64 - 1)
+    → (after_failed_try later (after_hearing now d)).due ≡ min (later + FIRST_DELAY) (2 ^ 64 - 1)

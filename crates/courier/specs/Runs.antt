@@ -2,8 +2,9 @@
 use Rattle.std.specs.Prelude.{◌≡◌, ℕ, ◌<◌, ◌^◌, ◌==◌, Bool, true, false, ◌&&◌, nat_lt, ⊤}
 use Rattle.std.specs.Prelude.{List, [], ◌∷◌, ◌++◌, length}
 use Rattle.courier.specs.declared.flight.Flight.{Flight}
-use Rattle.courier.specs.Destination.{Destination, new_at, begun, failed, heard, settled, withdrawn}
-use Rattle.courier.specs.Table.{changed, flies_at, put, IsNext}
+use Rattle.courier.specs.Destination.{Destination, after_answer, after_failed_try, after_hearing}
+use Rattle.courier.specs.Destination.{after_start, after_withdrawal, new_at}
+use Rattle.courier.specs.Table.{IsNext, flies_at, put, with_changed}
 
 -- a destination is added at a moment; an item is put to one; at a moment this is given; what is in
 -- flight to a destination fails at a moment, is settled at one, or is withdrawn; and a destination is
@@ -21,11 +22,11 @@ pub data Step : Type 0 where
 abbrev pub after : List Destination → Step → List Destination
 after ds (Add now) = ds ++ new_at now ∷ []
 after ds (Put item line) = put item ds line
-after ds (Give now flight) = changed begun ds flight.line
-after ds (Fail line now) = changed (failed now) ds line
-after ds (Settle line now) = changed (settled now) ds line
-after ds (Withdraw line) = changed withdrawn ds line
-after ds (Hear line now) = changed (heard now) ds line
+after ds (Give now flight) = with_changed after_start ds flight.line
+after ds (Fail line now) = with_changed (after_failed_try now) ds line
+after ds (Settle line now) = with_changed (after_answer now) ds line
+after ds (Withdraw line) = with_changed after_withdrawal ds line
+after ds (Hear line now) = with_changed (after_hearing now) ds line
 
 -- what it asks: what the call requires, or ensures of what it gives
 abbrev pub Allows : List Destination → Step → Type 0

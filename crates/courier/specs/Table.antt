@@ -5,7 +5,7 @@ use Rattle.std.specs.Prelude.{Option, Some, None}
 use Rattle.courier.specs.declared.TheConstants.{LAST_DELAY}
 use Rattle.courier.specs.declared.flight.Flight.{Flight}
 use Rattle.courier.specs.declared.turn.Turn.{Turn}
-use Rattle.courier.specs.Destination.{Destination, IsPaced, new_at, begun, flight_of, waits}
+use Rattle.courier.specs.Destination.{Destination, IsPaced, after_start, flight_of, new_at, waits}
 use Rattle.courier.specs.Destination.{with_item}
 use Rattle.courier.specs.Items.{has}
 use Rattle.courier.specs.Turns.{Turns, IsBefore, one_if, times}
@@ -15,8 +15,8 @@ abbrev pub destination_at : List Destination → ℕ → Destination
 destination_at ds line = slice_index_or ds line (new_at 0)
 
 -- all of them, with that of a number changed
-abbrev pub changed : (Destination → Destination) → List Destination → ℕ → List Destination
-changed change ds line = slice_set ds line (change (destination_at ds line))
+abbrev pub with_changed : (Destination → Destination) → List Destination → ℕ → List Destination
+with_changed change ds line = slice_set ds line (change (destination_at ds line))
 
 -- something may be sent to it
 abbrev pub waits_at : List Destination → ℕ → Bool
@@ -36,7 +36,7 @@ is_out ds line item = has item (destination_at ds line).items
 
 -- the item is out to it, behind the others unless it was
 abbrev pub put : ℕ → List Destination → ℕ → List Destination
-put item ds line = if is_out ds line item then ds else changed (with_item item) ds line
+put item ds line = if is_out ds line item then ds else with_changed (with_item item) ds line
 
 -- ---- the next
 
@@ -65,7 +65,7 @@ IsNextOrQuiet now ds (Some flight) = IsNext now ds flight
 -- what is given is in flight
 abbrev pub after_next : List Destination → Option Flight → List Destination
 after_next ds None = ds
-after_next ds (Some flight) = changed begun ds flight.line
+after_next ds (Some flight) = with_changed after_start ds flight.line
 
 -- what waits was tried less than the longest delay ago
 abbrev pub AreTried : ℕ → List Destination → Type 0

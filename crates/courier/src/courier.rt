@@ -12,7 +12,7 @@ use std::marker::Model;
 
 /// What is out to all destinations, by their numbers, and the turns of those that wait. One item at
 /// a time is in flight to each. A call costs the logarithm of how many destinations there are, and
-/// of how many items are out to the one that it is for; `heard` costs more where it ends a waiting.
+/// of how many items are out to the one that it is for; `hear_from` costs more where it ends a waiting.
 /// Only `add` and `put` need memory.
 #[derive(Drop)]
 pub struct Courier {
@@ -110,7 +110,7 @@ impl Courier {
         if self.lines[line].has(item) {
             return Ok(false);
         }
-        let due = self.lines[line].due();
+        let due = self.lines[line].due_time();
         let begins = self.lines[line].is_empty();
         self.lines[line].push(item)?;
         self.schedule.add(begins, Turn { due, line });
@@ -118,7 +118,7 @@ impl Courier {
     }
 
     /// What is to be sent now, and is in flight from then on, until the caller tells how it ended.
-    /// Nothing bounds how long that takes: the caller has its own limit, and calls `failed` then.
+    /// Nothing bounds how long that takes: the caller has its own limit, and calls `fail_flight` then.
     /// To send all that is due, it is called until there is nothing.
     pub fn next(&mut self, now: u64) -> Option<Flight>
         // Proved: What is given is the first item of a destination to which nothing is in flight,
@@ -148,23 +148,23 @@ impl Courier {
     }
 
     /// What is in flight to a destination failed: it goes behind the others.
-    pub fn failed(&mut self, line: usize, now: u64)
+    pub fn fail_flight(&mut self, line: usize, now: u64)
         // Wants: a destination to which something is in flight.
         requires { table.flies_at self.old line ≡ true }
-        ensures { self.new ≡ table.changed (words.failed now) self.old line }
+        ensures { self.new ≡ table.with_changed (words.after_failed_try now) self.old line }
     {
         let due = self.lines[line].fail(now);
         self.schedule.add(true, Turn { due, line });
     }
 
     /// What is in flight to a destination was answered: it is out no longer.
-    pub fn settled(&mut self, line: usize, now: u64)
+    pub fn settle_flight(&mut self, line: usize, now: u64)
         // Wants: a destination to which something is in flight.
         requires { table.flies_at self.old line ≡ true }
         // Proved: What is settled or withdrawn isn't out any more, and what failed goes behind the
         // others of its destination, which waits 1 second then, doubled up to 60.
-        // By `Courier::withdrawn`, `Courier::failed`.
-        ensures { self.new ≡ table.changed (words.settled now) self.old line }
+        // By `Courier::withdraw_flight`, `Courier::fail_flight`.
+        ensures { self.new ≡ table.with_changed (words.after_answer now) self.old line }
     {
         let goes_on = self.lines[line].settle(now);
         self.schedule.add(goes_on, Turn { due: now, line });
@@ -172,28 +172,28 @@ impl Courier {
 
     /// What is in flight to a destination wasn't sent, since it turned out to be out no longer:
     /// what is so in the middle of a line is found as its turn comes.
-    pub fn withdrawn(&mut self, line: usize)
+    pub fn withdraw_flight(&mut self, line: usize)
         // Wants: a destination to which something is in flight.
         requires { table.flies_at self.old line ≡ true }
-        ensures { self.new ≡ table.changed words.withdrawn self.old line }
+        ensures { self.new ≡ table.with_changed words.after_withdrawal self.old line }
     {
         let goes_on = self.lines[line].take_first();
-        let due = self.lines[line].due();
+        let due = self.lines[line].due_time();
         self.schedule.add(goes_on, Turn { due, line });
     }
 
     /// Something came from a destination, so it is there: what waits for it may be sent at once. An
     /// unknown number changes nothing. Where that ends a waiting it is a walk over all that wait.
-    pub fn heard(&mut self, line: usize, now: u64)
+    pub fn hear_from(&mut self, line: usize, now: u64)
         // Proved: A destination that is heard from is due then, if it wasn't before, and waits 1
         // second behind the next failure; its items, what is in flight and all other destinations
         // stay, and an unknown number changes nothing.
-        ensures { self.new ≡ table.changed (words.heard now) self.old line }
+        ensures { self.new ≡ table.with_changed (words.after_hearing now) self.old line }
     {
         if line >= self.lines.len() {
             return;
         }
-        let due = self.lines[line].due();
+        let due = self.lines[line].due_time();
         if self.lines[line].hear(now) {
             self.schedule.advance(Turn { due, line }, now);
         }

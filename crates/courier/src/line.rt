@@ -59,7 +59,7 @@ impl Line {
     }
 
     /// When the next may be sent.
-    pub(crate) fn due(&self) -> u64
+    pub(crate) fn due_time(&self) -> u64
         ensures value { result ≡ self.now.due }
         ensures paced { words.IsPaced self.now }
     {
@@ -131,7 +131,7 @@ impl Line {
     pub(crate) fn begin(&mut self) -> u64
         requires { words.waits self.old ≡ true }
         ensures item { slice_get self.old.items 0 ≡ Some result }
-        ensures value { self.new ≡ words.begun self.old }
+        ensures value { self.new ≡ words.after_start self.old }
         ensures paced { words.IsPaced self.new }
     {
         self.flying = true;
@@ -143,7 +143,7 @@ impl Line {
         requires { self.old.flying ≡ true }
         ensures due { result ≡ self.new.due }
         ensures waits { words.waits self.new ≡ true }
-        ensures value { self.new ≡ words.failed now self.old }
+        ensures value { self.new ≡ words.after_failed_try now self.old }
         ensures paced { words.IsPaced self.new }
     {
         self.queue.rotate_left(1);
@@ -158,7 +158,7 @@ impl Line {
     pub(crate) fn settle(&mut self, now: u64) -> bool
         requires { self.old.flying ≡ true }
         ensures waits { result ≡ words.waits self.new }
-        ensures value { self.new ≡ words.settled now self.old }
+        ensures value { self.new ≡ words.after_answer now self.old }
         ensures paced { words.IsPaced self.new }
     {
         self.due = now;
@@ -170,7 +170,7 @@ impl Line {
     /// The destination was heard from. Answers whether that ends a waiting.
     pub(crate) fn hear(&mut self, now: u64) -> bool
         ensures ends { result ≡ (words.waits self.old && nat_lt now self.old.due) }
-        ensures value { self.new ≡ words.heard now self.old }
+        ensures value { self.new ≡ words.after_hearing now self.old }
         ensures paced { words.IsPaced self.new }
     {
         let ends = !self.flying && !self.queue.is_empty() && now < self.due;
@@ -183,7 +183,7 @@ impl Line {
     pub(crate) fn take_first(&mut self) -> bool
         requires { self.old.flying ≡ true }
         ensures waits { result ≡ words.waits self.new }
-        ensures value { self.new ≡ words.withdrawn self.old }
+        ensures value { self.new ≡ words.after_withdrawal self.old }
         ensures paced { words.IsPaced self.new }
     {
         if let Some(item) = self.queue.pop_front() {

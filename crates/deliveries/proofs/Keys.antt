@@ -4,7 +4,7 @@ use Rattle.std.proofs.lemmas.Bool.{and_from, and_parts, cases_eq, eqb-true, eq-e
 use Rattle.std.proofs.lemmas.List.Quantifiers.{position-Some}
 use Rattle.std.proofs.lemmas.Option.{slice_get-get_or}
 use Rattle.std.specs.Option.{option_and_then}
-use Rattle.deliveries.specs.Outbox.{Outbox, marked, progress_in}
+use Rattle.deliveries.specs.Outbox.{Outbox, progress_after, progress_in}
 use Rattle.deliveries.specs.Routes.{Routes, is_thing, thing_at}
 use Rattle.deliveries.specs.declared.progress.Progress.{Progress}
 use Rattle.deliveries.specs.declared.thing.Thing.{Thing}
@@ -15,8 +15,8 @@ then-some : (o : Option Progress) (to : Progress) → IsSome o → Some to ≡ o
 then-some (Some p) to some = refl
 then-some None to some = absurd (cc)
 
-pub marked-some : (box : Outbox) (one spawn : ℕ) (to : Progress) (new : Option Progress) → IsSome (progress_in box one) → new ≡ (if one == spawn then Some to else progress_in box spawn) → new ≡ marked box one (Some to) spawn
-marked-some box one spawn to new some now =
+pub progress_after-some : (box : Outbox) (one spawn : ℕ) (to : Progress) (new : Option Progress) → IsSome (progress_in box one) → new ≡ (if one == spawn then Some to else progress_in box spawn) → new ≡ progress_after box one (Some to) spawn
+progress_after-some box one spawn to new some now =
     ⊎_elim
     (λ here.
     let test = eq-eqb one spawn here in

@@ -9,7 +9,7 @@ use Rattle.courier.specs.Destination.{Destination}
 use Rattle.courier.specs.Table as table
 use Rattle.deliveries.proofs.Keys.{same-thing}
 use Rattle.deliveries.specs.Ledger.{IsHeld, IsInLine, IsRouted, IsTied, is_waiting, outbox_at, progress_of}
-use Rattle.deliveries.specs.Outbox.{Outbox, Told, looked, progress_in, seen_again}
+use Rattle.deliveries.specs.Outbox.{Outbox, SpawnDestinations, progress_after_look, progress_in, seen_again}
 use Rattle.deliveries.specs.Routes.{Routes, is_thing, line_of, thing_at}
 use Rattle.deliveries.specs.Sending.{IsPut, Puts, thing_of, waits_again}
 use Rattle.deliveries.specs.declared.progress.Progress.{Progress}
@@ -17,7 +17,7 @@ use Rattle.deliveries.specs.declared.thing.Thing.{Thing}
 
 -- ---- lists
 
-filter-push : (f : ℕ × ℕ → Bool) (xs : Told) (x : ℕ × ℕ) → filter f (xs ++ x ∷ []) ≡ filter f xs ++ (if f x then x ∷ [] else [])
+filter-push : (f : ℕ × ℕ → Bool) (xs : SpawnDestinations) (x : ℕ × ℕ) → filter f (xs ++ x ∷ []) ≡ filter f xs ++ (if f x then x ∷ [] else [])
 filter-push f [] x = refl
 filter-push f (y ∷ xs) x = by (f y) (filter-push f xs x)
   where
@@ -33,8 +33,8 @@ or-false : (a : Bool) → (a || false) ≡ a
 or-false true = refl
 or-false false = refl
 
-looked-push : (had : Outbox) (out : Told) (o : ℕ × ℕ) (s : ℕ) → looked had (out ++ o ∷ []) s ≡ (if o.0 == s then Some (seen_again (progress_in had o.0)) else looked had out s)
-looked-push had out o s =
+progress_after_look-push : (had : Outbox) (out : SpawnDestinations) (o : ℕ × ℕ) (s : ℕ) → progress_after_look had (out ++ o ∷ []) s ≡ (if o.0 == s then Some (seen_again (progress_in had o.0)) else progress_after_look had out s)
+progress_after_look-push had out o s =
     ap (λ b. if b then Some (seen_again (progress_in had s)) else None) (list_any-append (λ p. p.0 == s) out (o ∷ []))
     ∙ ⊎_elim
     (λ here.
@@ -42,18 +42,18 @@ looked-push had out o s =
     ap (λ b. if list_any (λ p. p.0 == s) out || (b || false) then Some (seen_again (progress_in had s)) else None) test
     ∙ ap (λ b. if b then Some (seen_again (progress_in had s)) else None) (or-true (list_any (λ p. p.0 == s) out))
     ∙ ap (λ n. Some (seen_again (progress_in had n))) (sym here)
-    ∙ sym (ap (λ b. if b then Some (seen_again (progress_in had o.0)) else looked had out s) test))
+    ∙ sym (ap (λ b. if b then Some (seen_again (progress_in had o.0)) else progress_after_look had out s) test))
     (λ other.
     let test = ne_eqb o.0 s other in
     ap (λ b. if list_any (λ p. p.0 == s) out || (b || false) then Some (seen_again (progress_in had s)) else None) test
     ∙ ap (λ b. if b then Some (seen_again (progress_in had s)) else None) (or-false (list_any (λ p. p.0 == s) out))
-    ∙ sym (ap (λ b. if b then Some (seen_again (progress_in had o.0)) else looked had out s) test))
+    ∙ sym (ap (λ b. if b then Some (seen_again (progress_in had o.0)) else progress_after_look had out s) test))
     (cases_eq o.0 s)
 
 -- ---- one more
 
 -- what is put stays that of the same things
-things-kept : (c : ℕ) (old new : Routes) (puts : Puts) (xs : Told) → ((item : ℕ) (t : Thing) → thing_at old item ≡ Some t → thing_at new item ≡ Some t) → map (λ p. thing_at old p.0) puts ≡ map (λ o. Some (thing_of c o)) xs → map (λ p. thing_at new p.0) puts ≡ map (λ o. Some (thing_of c o)) xs
+things-kept : (c : ℕ) (old new : Routes) (puts : Puts) (xs : SpawnDestinations) → ((item : ℕ) (t : Thing) → thing_at old item ≡ Some t → thing_at new item ≡ Some t) → map (λ p. thing_at old p.0) puts ≡ map (λ o. Some (thing_of c o)) xs → map (λ p. thing_at new p.0) puts ≡ map (λ o. Some (thing_of c o)) xs
 things-kept c old new [] [] kept same = refl
 things-kept c old new [] (x ∷ xs) kept same = absurd (cc)
 things-kept c old new (p ∷ puts) [] kept same = absurd (cc)
@@ -62,7 +62,7 @@ things-kept c old new (p ∷ puts) (x ∷ xs) kept same =
     let rest : map (λ p. thing_at old p.0) puts ≡ map (λ o. Some (thing_of c o)) xs = cc in
     ap₂ (λ o os. o ∷ os) (kept p.0 (thing_of c x) first) (things-kept c old new puts xs kept rest)
 
-pub put-kept : (c : ℕ) (had : Outbox) (out : Told) (old : List Destination) (r s : Routes) (new after : List Destination) → ((item : ℕ) (t : Thing) → thing_at r item ≡ Some t → thing_at s item ≡ Some t) → after ≡ new → IsPut c had out old r new → IsPut c had out old s after
+pub put-kept : (c : ℕ) (had : Outbox) (out : SpawnDestinations) (old : List Destination) (r s : Routes) (new after : List Destination) → ((item : ℕ) (t : Thing) → thing_at r item ≡ Some t → thing_at s item ≡ Some t) → after ≡ new → IsPut c had out old r new → IsPut c had out old s after
 put-kept c had out old r s new after kept same was =
     record {
       puts = was.puts;
@@ -70,7 +70,7 @@ put-kept c had out old r s new after kept same was =
       after = same ∙ was.after;
     }
 
-put-more : (c : ℕ) (had : Outbox) (out : Told) (o : ℕ × ℕ) (old : List Destination) (r : Routes) (new after : List Destination) (item line : ℕ) (b : Bool) → waits_again had o ≡ b → thing_at r item ≡ Some (thing_of c o) → after ≡ (if b then table.put item new line else new) → IsPut c had out old r new → IsPut c had (out ++ o ∷ []) old r after
+put-more : (c : ℕ) (had : Outbox) (out : SpawnDestinations) (o : ℕ × ℕ) (old : List Destination) (r : Routes) (new after : List Destination) (item line : ℕ) (b : Bool) → waits_again had o ≡ b → thing_at r item ≡ Some (thing_of c o) → after ≡ (if b then table.put item new line else new) → IsPut c had out old r new → IsPut c had (out ++ o ∷ []) old r after
 put-more c had out o old r new after item line true waits there is was =
     let more = filter-push (waits_again had) out o ∙ ap (λ b. filter (waits_again had) out ++ (if b then o ∷ [] else [])) waits in
     record {
@@ -101,8 +101,8 @@ pub record IsSent (one : Thing) (waits : Bool) (line : ℕ) (old new : List Dest
   pub long : length new ≡ length old
 
 -- what a look has done behind some spawns
-pub record IsLooked (c : ℕ) (had : Outbox) (out : Told) (old new : List Destination) (r s : Routes) (box : Outbox) : Type 0 where
-  pub looked : (n : ℕ) → progress_in box n ≡ looked had out n
+pub record IsLooked (c : ℕ) (had : Outbox) (out : SpawnDestinations) (old new : List Destination) (r s : Routes) (box : Outbox) : Type 0 where
+  pub looked : (n : ℕ) → progress_in box n ≡ progress_after_look had out n
   pub held : (n : ℕ) → IsHeld new s (record { controller = c; spawn = n }) (progress_in box n)
   pub put : IsPut c had out old s new
   pub routed : IsRouted new s
@@ -110,8 +110,8 @@ pub record IsLooked (c : ℕ) (had : Outbox) (out : Told) (old new : List Destin
   pub lined : (t : Thing) → is_some (line_of r t) ≡ true → is_some (line_of s t) ≡ true
   pub long : length new ≡ length old
 
-pub looked-none : (c : ℕ) (had : Outbox) (old : List Destination) (r : Routes) → IsRouted old r → IsLooked c had [] old old r r []
-looked-none c had old r routed =
+pub progress_after_look-none : (c : ℕ) (had : Outbox) (old : List Destination) (r : Routes) → IsRouted old r → IsLooked c had [] old old r r []
+progress_after_look-none c had old r routed =
     record {
       looked = λ n. refl;
       held = λ n. record { known = λ some. absurd (true≢false (sym some)); waits = λ some. absurd (true≢false (sym some)) };
@@ -122,7 +122,7 @@ looked-none c had old r routed =
       long = refl;
     }
 
-module _ (c : ℕ) (had : Outbox) (out : Told) (o : ℕ × ℕ) (old mid new : List Destination) (r s v : Routes) (box : Outbox) (line : ℕ) (was : IsLooked c had out old mid r s box) (sent : IsSent (thing_of c o) (waits_again had o) line mid new s v) where
+module _ (c : ℕ) (had : Outbox) (out : SpawnDestinations) (o : ℕ × ℕ) (old mid new : List Destination) (r s v : Routes) (box : Outbox) (line : ℕ) (was : IsLooked c had out old mid r s box) (sent : IsSent (thing_of c o) (waits_again had o) line mid new s v) where
   pub put-sent : IsPut c had (out ++ o ∷ []) old v new
   put-sent = put-more c had out o old v mid new sent.put.0 line (waits_again had o) refl sent.put.1 sent.put.2 (put-kept c had out old s v mid mid sent.things refl was.put)
 
@@ -150,7 +150,7 @@ module _ (c : ℕ) (had : Outbox) (out : Told) (o : ℕ × ℕ) (old mid new : L
   pub looked-more : (after : Outbox) → ((n : ℕ) → progress_in after n ≡ (if o.0 == n then Some (seen_again (progress_in had o.0)) else progress_in box n)) → IsLooked c had (out ++ o ∷ []) old new r v after
   looked-more after inserted =
       record {
-        looked = λ n. inserted n ∙ ap (λ p. if o.0 == n then Some (seen_again (progress_in had o.0)) else p) (was.looked n) ∙ sym (looked-push had out o n);
+        looked = λ n. inserted n ∙ ap (λ p. if o.0 == n then Some (seen_again (progress_in had o.0)) else p) (was.looked n) ∙ sym (progress_after_look-push had out o n);
         held = λ n. held-more n (progress_in after n) (cases_eq o.0 n) (inserted n);
         put = put-sent;
         routed = sent.routed;

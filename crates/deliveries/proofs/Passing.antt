@@ -7,15 +7,15 @@ use Rattle.std.specs.List.{sum_by}
 use Rattle.std.specs.Option.{option_and_then, option_map_or}
 use Rattle.courier.proofs.Differing.{has-turned}
 use Rattle.courier.proofs.Keeping.{at-changed, at-other, flies-within}
-use Rattle.courier.proofs.Running.{at-heard, at-step}
-use Rattle.courier.specs.Destination.{Destination, begun, failed, flight_of, heard, new_at, withdrawn}
+use Rattle.courier.proofs.Running.{at-after_hearing, at-step}
+use Rattle.courier.specs.Destination.{Destination, after_failed_try, after_hearing, after_start, after_withdrawal, flight_of, new_at}
 use Rattle.courier.specs.Items.{has}
 use Rattle.courier.specs.Runs.{Step, Give, Withdraw, IsRun, after_all, after}
-use Rattle.courier.specs.Table.{IsNext, changed, destination_at, flies_at, is_out}
+use Rattle.courier.specs.Table.{IsNext, destination_at, flies_at, is_out, with_changed}
 use Rattle.courier.specs.declared.flight.Flight.{Flight}
 use Rattle.deliveries.proofs.Keys.{is_thing-refl, same-thing}
-use Rattle.deliveries.proofs.Ties.{IsEnded, ended-changed, has-behind, in-line-ended, routed-ended}
-use Rattle.deliveries.specs.Ledger.{IsBound, IsHeld, IsInLine, IsMarked, IsRouted, IsTied, due_thing, is_for, is_waiting, marked_of, progress_of, thing_in_flight}
+use Rattle.deliveries.proofs.Ties.{IsEnded, ended-with_changed, has-behind, in-line-ended, routed-ended}
+use Rattle.deliveries.specs.Ledger.{IsBound, IsHeld, IsInLine, IsMarked, IsRouted, IsTied, due_thing, is_for, is_waiting, progress_of, progress_with, thing_in_flight}
 use Rattle.deliveries.specs.Outbox.{Outbox}
 use Rattle.deliveries.specs.Routes.{Routes, is_thing, line_of, thing_at}
 use Rattle.deliveries.specs.Sending.{passes}
@@ -47,16 +47,16 @@ pub record IsPassed (now : ℕ) (routes : Routes) (boxes : List Outbox) (old new
 pub none-passed : (now : ℕ) (routes : Routes) (boxes : List Outbox) (old : List Destination) → IsPassed now routes boxes old old
 none-passed now routes boxes old = record { passed = []; idle = search rules; run = tt; after = refl }
 
-pub passed-push : (now : ℕ) (routes : Routes) (boxes : List Outbox) (old ds : List Destination) (f : Flight) → IsPassed now routes boxes old ds → IsNext now ds f → due_thing routes boxes f ≡ None → IsPassed now routes boxes old (changed withdrawn (changed begun ds f.line) f.line)
+pub passed-push : (now : ℕ) (routes : Routes) (boxes : List Outbox) (old ds : List Destination) (f : Flight) → IsPassed now routes boxes old ds → IsNext now ds f → due_thing routes boxes f ≡ None → IsPassed now routes boxes old (with_changed after_withdrawal (with_changed after_start ds f.line) f.line)
 passed-push now routes boxes old ds f was next idle =
-    let flies = ap (λ d. d.flying) (at-changed ds f.line (begun (destination_at ds f.line)) next.within) in
+    let flies = ap (λ d. d.flying) (at-changed ds f.line (after_start (destination_at ds f.line)) next.within) in
     let steps = passes-push now was.passed f in
     let more = subst (λ ds. IsRun ds (Give now f ∷ Withdraw f.line ∷ [])) was.after (next, (flies, tt)) in
     record {
       passed = was.passed ++ f ∷ [];
       idle = All-push (λ g. due_thing routes boxes g ≡ None) was.passed f was.idle idle;
       run = subst (IsRun old) (sym steps) (run-append old (passes now was.passed) (Give now f ∷ Withdraw f.line ∷ []) was.run more);
-      after = ap (λ ds. changed withdrawn (changed begun ds f.line) f.line) was.after ∙ sym (after-append old (passes now was.passed) (Give now f ∷ Withdraw f.line ∷ [])) ∙ ap (after_all old) (sym steps);
+      after = ap (λ ds. with_changed after_withdrawal (with_changed after_start ds f.line) f.line) was.after ∙ sym (after-append old (passes now was.passed) (Give now f ∷ Withdraw f.line ∷ [])) ∙ ap (after_all old) (sym steps);
     }
 
 -- one item fewer each time
@@ -65,14 +65,14 @@ some-first : (items : List ℕ) (item : ℕ) → slice_get items 0 ≡ Some item
 some-first [] item first = absurd (cc)
 some-first (x ∷ items) item first = omega arith
 
-pub fewer : (now : ℕ) (ds : List Destination) (f : Flight) → IsNext now ds f → sum_by (λ d. length d.items) (changed withdrawn (changed begun ds f.line) f.line) < sum_by (λ d. length d.items) ds
+pub fewer : (now : ℕ) (ds : List Destination) (f : Flight) → IsNext now ds f → sum_by (λ d. length d.items) (with_changed after_withdrawal (with_changed after_start ds f.line) f.line) < sum_by (λ d. length d.items) ds
 fewer now ds f next =
     let d = destination_at ds f.line in
-    let middle = changed begun ds f.line in
-    let long : f.line < length middle = subst (λ n. f.line < n) (sym (length-set ds f.line (begun d))) next.within in
-    let first = sum_by-set (λ d. length d.items) ds f.line (begun d) (new_at 0) next.within in
-    let at = at-changed ds f.line (begun d) next.within in
-    let last = sum_by-set (λ d. length d.items) middle f.line (withdrawn (destination_at middle f.line)) (new_at 0) long in
+    let middle = with_changed after_start ds f.line in
+    let long : f.line < length middle = subst (λ n. f.line < n) (sym (length-set ds f.line (after_start d))) next.within in
+    let first = sum_by-set (λ d. length d.items) ds f.line (after_start d) (new_at 0) next.within in
+    let at = at-changed ds f.line (after_start d) next.within in
+    let last = sum_by-set (λ d. length d.items) middle f.line (after_withdrawal (destination_at middle f.line)) (new_at 0) long in
     let items = ap (λ d. length (drop 1 d.items)) at in
     let same = ap (λ d. length d.items) at in
     let one = some-first d.items f.item next.item in
@@ -121,40 +121,40 @@ held-ended k ds after routes t had ended was stays =
       waits = λ waiting. in-line-ended k ds after routes t ended (was.waits waiting) (stays waiting);
     }
 
-pub tied-passed : (now : ℕ) (ds : List Destination) (routes : Routes) (boxes : List Outbox) (f : Flight) → IsTied ds routes boxes → IsNext now ds f → due_thing routes boxes f ≡ None → IsTied (changed withdrawn (changed begun ds f.line) f.line) routes boxes
+pub tied-passed : (now : ℕ) (ds : List Destination) (routes : Routes) (boxes : List Outbox) (f : Flight) → IsTied ds routes boxes → IsNext now ds f → due_thing routes boxes f ≡ None → IsTied (with_changed after_withdrawal (with_changed after_start ds f.line) f.line) routes boxes
 tied-passed now ds routes boxes f tied next idle =
     let k = f.line in
     let d = destination_at ds k in
-    let middle = changed begun ds k in
-    let long : k < length middle = subst (λ n. k < n) (sym (length-set ds k (begun d))) next.within in
-    let last = ended-changed withdrawn middle k long (λ d. refl) in
-    let ended : IsEnded k ds (changed withdrawn middle k) = record {
-      long = last.long ∙ length-set ds k (begun d);
+    let middle = with_changed after_start ds k in
+    let long : k < length middle = subst (λ n. k < n) (sym (length-set ds k (after_start d))) next.within in
+    let last = ended-with_changed after_withdrawal middle k long (λ d. refl) in
+    let ended : IsEnded k ds (with_changed after_withdrawal middle k) = record {
+      long = last.long ∙ length-set ds k (after_start d);
       idle = last.idle;
-      others = λ line other. last.others line other ∙ at-other ds k line (begun d) other;
+      others = λ line other. last.others line other ∙ at-other ds k line (after_start d) other;
     } in
-    let at = at-changed middle k (withdrawn (destination_at middle k)) long ∙ ap withdrawn (at-changed ds k (begun d) next.within) in
+    let at = at-changed middle k (after_withdrawal (destination_at middle k)) long ∙ ap after_withdrawal (at-changed ds k (after_start d) next.within) in
     record {
-      routed = routed-ended k ds (changed withdrawn middle k) routes ended tied.routed;
-      held = λ t. held-ended k ds (changed withdrawn middle k) routes t (progress_of boxes t) ended (tied.held t) (λ waiting item there route out.
+      routed = routed-ended k ds (with_changed after_withdrawal middle k) routes ended tied.routed;
+      held = λ t. held-ended k ds (with_changed after_withdrawal middle k) routes t (progress_of boxes t) ended (tied.held t) (λ waiting item there route out.
           let behind = has-behind item f.item d.items out next.item (λ here. true≢false (ap is_some (sym (due-some routes boxes f t (subst (λ i. thing_at routes i ≡ Some t) (sym here) there) route waiting) ∙ idle))) in
           ap (λ d. has item d.items) at ∙ behind);
     }
 
-pub tied-given : (now : ℕ) (ds : List Destination) (routes : Routes) (boxes : List Outbox) (f : Flight) (t : Thing) → IsTied ds routes boxes → IsNext now ds f → due_thing routes boxes f ≡ Some t → IsTied (changed begun ds f.line) routes boxes
+pub tied-given : (now : ℕ) (ds : List Destination) (routes : Routes) (boxes : List Outbox) (f : Flight) (t : Thing) → IsTied ds routes boxes → IsNext now ds f → due_thing routes boxes f ≡ Some t → IsTied (with_changed after_start ds f.line) routes boxes
 tied-given now ds routes boxes f t tied next due =
     let k = f.line in
     let d = destination_at ds k in
     let its = due-parts routes boxes f t due in
-    let at = at-changed ds k (begun d) next.within in
+    let at = at-changed ds k (after_start d) next.within in
     record {
       routed = record {
-        within = λ u line there. subst (λ n. line < n) (sym (length-set ds k (begun d))) (tied.routed.within u line there);
+        within = λ u line there. subst (λ n. line < n) (sym (length-set ds k (after_start d))) (tied.routed.within u line there);
         bound = λ line flies.
             ⊎_elim
-            (λ here. subst (IsBound (changed begun ds k) routes) here (record { thing = t; flight = ap (λ e. option_and_then (thing_at routes) (flight_of e)) at ∙ ap (option_and_then (thing_at routes)) next.item ∙ its.there; route = its.route }))
+            (λ here. subst (IsBound (with_changed after_start ds k) routes) here (record { thing = t; flight = ap (λ e. option_and_then (thing_at routes) (flight_of e)) at ∙ ap (option_and_then (thing_at routes)) next.item ∙ its.there; route = its.route }))
             (λ other.
-            let same = at-other ds k line (begun d) (λ here. other (sym here)) in
+            let same = at-other ds k line (after_start d) (λ here. other (sym here)) in
             let was = tied.routed.bound line (ap (λ e. e.flying) (sym same) ∙ flies) in
             record { thing = was.thing; flight = ap (λ e. option_and_then (thing_at routes) (flight_of e)) same ∙ was.flight; route = was.route })
             (cases_eq k line);
@@ -165,33 +165,33 @@ tied-given now ds routes boxes f t tied next due =
             known = was.known;
             waits = λ waiting.
                 let line = was.waits waiting in
-                record { item = line.item; line = line.line; thing = line.thing; route = line.route; out = at-step (λ e. has line.item e.items ≡ true) begun ds k line.line next.within line.out (λ _. line.out) };
+                record { item = line.item; line = line.line; thing = line.thing; route = line.route; out = at-step (λ e. has line.item e.items ≡ true) after_start ds k line.line next.within line.out (λ _. line.out) };
           };
     }
 
 -- ---- how it ends
 
-pub tied-failed : (now : ℕ) (ds : List Destination) (routes : Routes) (boxes : List Outbox) (k : ℕ) → flies_at ds k ≡ true → IsTied ds routes boxes → IsTied (changed (failed now) ds k) routes boxes
-tied-failed now ds routes boxes k flies tied =
+pub tied-after_failed_try : (now : ℕ) (ds : List Destination) (routes : Routes) (boxes : List Outbox) (k : ℕ) → flies_at ds k ≡ true → IsTied ds routes boxes → IsTied (with_changed (after_failed_try now) ds k) routes boxes
+tied-after_failed_try now ds routes boxes k flies tied =
     let within = flies-within ds k flies in
-    let ended = ended-changed (failed now) ds k within (λ d. refl) in
+    let ended = ended-with_changed (after_failed_try now) ds k within (λ d. refl) in
     record {
-      routed = routed-ended k ds (changed (failed now) ds k) routes ended tied.routed;
-      held = λ t. held-ended k ds (changed (failed now) ds k) routes t (progress_of boxes t) ended (tied.held t) (λ waiting item there route out.
-          ap (λ d. has item d.items) (at-changed ds k (failed now (destination_at ds k)) within) ∙ has-turned item (destination_at ds k).items ∙ out);
+      routed = routed-ended k ds (with_changed (after_failed_try now) ds k) routes ended tied.routed;
+      held = λ t. held-ended k ds (with_changed (after_failed_try now) ds k) routes t (progress_of boxes t) ended (tied.held t) (λ waiting item there route out.
+          ap (λ d. has item d.items) (at-changed ds k (after_failed_try now (destination_at ds k)) within) ∙ has-turned item (destination_at ds k).items ∙ out);
     }
 
 -- ---- where a destination is heard from
 
-pub tied-heard : (now : ℕ) (ds : List Destination) (routes : Routes) (boxes : List Outbox) (k : ℕ) → IsTied ds routes boxes → IsTied (changed (heard now) ds k) routes boxes
-tied-heard now ds routes boxes k tied =
+pub tied-after_hearing : (now : ℕ) (ds : List Destination) (routes : Routes) (boxes : List Outbox) (k : ℕ) → IsTied ds routes boxes → IsTied (with_changed (after_hearing now) ds k) routes boxes
+tied-after_hearing now ds routes boxes k tied =
     record {
       routed = record {
-        within = λ t line there. subst (λ n. line < n) (sym (length-set ds k (heard now (destination_at ds k)))) (tied.routed.within t line there);
+        within = λ t line there. subst (λ n. line < n) (sym (length-set ds k (after_hearing now (destination_at ds k)))) (tied.routed.within t line there);
         bound = λ line flies.
-            let same = at-heard (λ d. d.flying ≡ (destination_at ds line).flying) now ds k line refl (λ _. refl) in
+            let same = at-after_hearing (λ d. d.flying ≡ (destination_at ds line).flying) now ds k line refl (λ _. refl) in
             let was = tied.routed.bound line (sym same ∙ flies) in
-            record { thing = was.thing; flight = at-heard (λ d. option_and_then (thing_at routes) (flight_of d) ≡ Some was.thing) now ds k line was.flight (λ _. was.flight); route = was.route };
+            record { thing = was.thing; flight = at-after_hearing (λ d. option_and_then (thing_at routes) (flight_of d) ≡ Some was.thing) now ds k line was.flight (λ _. was.flight); route = was.route };
       };
       held = λ t.
           let was = tied.held t in
@@ -199,7 +199,7 @@ tied-heard now ds routes boxes k tied =
             known = was.known;
             waits = λ waiting.
                 let line = was.waits waiting in
-                record { item = line.item; line = line.line; thing = line.thing; route = line.route; out = at-heard (λ d. has line.item d.items ≡ true) now ds k line.line line.out (λ _. line.out) };
+                record { item = line.item; line = line.line; thing = line.thing; route = line.route; out = at-after_hearing (λ d. has line.item d.items ≡ true) now ds k line.line line.out (λ _. line.out) };
           };
     }
 
@@ -214,20 +214,20 @@ then-some None to some = some
 then-some (Some p) to some = refl
 
 -- what is in flight goes, and waits no longer
-pub tied-settled : (f : Destination → Destination) (ds : List Destination) (routes : Routes) (boxes after : List Outbox) (k : ℕ) (to : Option Progress) → flies_at ds k ≡ true → IsTied ds routes boxes → is_waiting to ≡ false → ((d : Destination) → (f d).items ≡ drop 1 d.items) → ((d : Destination) → (f d).flying ≡ false) → IsMarked (thing_in_flight ds routes k) to boxes after → IsTied (changed f ds k) routes after
+pub tied-settled : (f : Destination → Destination) (ds : List Destination) (routes : Routes) (boxes after : List Outbox) (k : ℕ) (to : Option Progress) → flies_at ds k ≡ true → IsTied ds routes boxes → is_waiting to ≡ false → ((d : Destination) → (f d).items ≡ drop 1 d.items) → ((d : Destination) → (f d).flying ≡ false) → IsMarked (thing_in_flight ds routes k) to boxes after → IsTied (with_changed f ds k) routes after
 tied-settled f ds routes boxes after k to flies tied idle items lands marked =
     record {
-      routed = routed-ended k ds (changed f ds k) routes ended tied.routed;
+      routed = routed-ended k ds (with_changed f ds k) routes ended tied.routed;
       held = λ t. by t (is_thing u.thing t) refl;
     }
   where
     u : IsBound ds routes k
     u = tied.routed.bound k flies
 
-    ended : IsEnded k ds (changed f ds k)
-    ended = ended-changed f ds k (flies-within ds k flies) lands
+    ended : IsEnded k ds (with_changed f ds k)
+    ended = ended-with_changed f ds k (flies-within ds k flies) lands
 
-    now : (t : Thing) → progress_of after t ≡ marked_of boxes u.thing to t
+    now : (t : Thing) → progress_of after t ≡ progress_with boxes u.thing to t
     now = subst (λ o. IsMarked o to boxes after) u.flight marked
 
     first : (t : Thing) (item : ℕ) (o : Option ℕ) → slice_get (destination_at ds k).items 0 ≡ o → option_and_then (thing_at routes) o ≡ Some u.thing → is_thing u.thing t ≡ false → thing_at routes item ≡ Some t → has item (destination_at ds k).items ≡ true → has item (drop 1 (destination_at ds k).items) ≡ true
@@ -239,7 +239,7 @@ tied-settled f ds routes boxes after k to flies tied idle items lands marked =
         let same : u.thing ≡ t = cc in
         both_ways _ other (subst (λ v. is_thing u.thing v ≡ true) same (is_thing-refl u.thing)))
 
-    by : (t : Thing) (b : Bool) → is_thing u.thing t ≡ b → IsHeld (changed f ds k) routes t (progress_of after t)
+    by : (t : Thing) (b : Bool) → is_thing u.thing t ≡ b → IsHeld (with_changed f ds k) routes t (progress_of after t)
     by t true same =
         let is = now t ∙ ap (λ b. if b then option_and_then (λ _. to) (progress_of boxes t) else progress_of boxes t) same in
         record {
@@ -249,11 +249,11 @@ tied-settled f ds routes boxes after k to flies tied idle items lands marked =
     by t false other =
         let is = now t ∙ ap (λ b. if b then option_and_then (λ _. to) (progress_of boxes t) else progress_of boxes t) other in
         let flight = ap (λ b. option_and_then (thing_at routes) (if b then slice_get (destination_at ds k).items 0 else None)) (sym flies) ∙ u.flight in
-        subst (IsHeld (changed f ds k) routes t) (sym is)
-        (held-ended k ds (changed f ds k) routes t (progress_of boxes t) ended (tied.held t) (λ waiting item there route out.
+        subst (IsHeld (with_changed f ds k) routes t) (sym is)
+        (held-ended k ds (with_changed f ds k) routes t (progress_of boxes t) ended (tied.held t) (λ waiting item there route out.
         ap (λ e. has item e.items) (at-changed ds k (f (destination_at ds k)) (flies-within ds k flies)) ∙ ap (has item) (items (destination_at ds k)) ∙ first t item (slice_get (destination_at ds k).items 0) refl flight other there out))
 
-pub tied-again : (old new : List Destination) (r s : Routes) (boxes after : List Outbox) (one : Thing) → IsTied old r boxes → IsRouted new s → IsInLine new s one → ((t : Thing) → IsInLine old r t → IsInLine new s t) → ((t : Thing) → is_some (line_of r t) ≡ true → is_some (line_of s t) ≡ true) → ((t : Thing) → progress_of after t ≡ marked_of boxes one (Some Waiting) t) → IsTied new s after
+pub tied-again : (old new : List Destination) (r s : Routes) (boxes after : List Outbox) (one : Thing) → IsTied old r boxes → IsRouted new s → IsInLine new s one → ((t : Thing) → IsInLine old r t → IsInLine new s t) → ((t : Thing) → is_some (line_of r t) ≡ true → is_some (line_of s t) ≡ true) → ((t : Thing) → progress_of after t ≡ progress_with boxes one (Some Waiting) t) → IsTied new s after
 tied-again old new r s boxes after one tied routed in-line kept lined marked =
     record {
       routed = routed;

@@ -7,7 +7,7 @@ use Rattle.courier.proofs.Keeping.{at-changed, at-other}
 use Rattle.courier.proofs.Running.{at-put}
 use Rattle.courier.specs.Destination.{Destination, flight_of, with_item}
 use Rattle.courier.specs.Items.{has}
-use Rattle.courier.specs.Table.{changed, destination_at, flies_at, flight_at, is_out, put}
+use Rattle.courier.specs.Table.{destination_at, flies_at, flight_at, is_out, put, with_changed}
 use Rattle.deliveries.proofs.Keys.{is_thing-refl, same-thing}
 use Rattle.deliveries.specs.Ledger.{IsInLine, IsRouted, is_flying, line_for, thing_in_flight}
 use Rattle.deliveries.specs.Routes.{IsRedirected, Routes, is_thing, line_of, thing_at, with_thing}
@@ -195,7 +195,7 @@ known-lined one t to old new known some =
 -- ---- an item is put
 
 length-put : (item : ℕ) (ds : List Destination) (k : ℕ) → length (put item ds k) ≡ length ds
-length-put item ds k = cond_both (is_out ds k item) ds (changed (with_item item) ds k) (λ all. length all ≡ length ds) (λ _. refl) (λ _. length-set ds k (with_item item (destination_at ds k)))
+length-put item ds k = cond_both (is_out ds k item) ds (with_changed (with_item item) ds k) (λ all. length all ≡ length ds) (λ _. refl) (λ _. length-set ds k (with_item item (destination_at ds k)))
 
 out-put : (item : ℕ) (ds : List Destination) (k line other : ℕ) → k < length ds → is_out ds line other ≡ true → is_out (put item ds k) line other ≡ true
 out-put item ds k line other within out =
@@ -205,7 +205,7 @@ out-put item ds k line other within out =
 out-new : (item : ℕ) (ds : List Destination) (k : ℕ) → k < length ds → is_out (put item ds k) k item ≡ true
 out-new item ds k within =
     let d = destination_at ds k in
-    cond_both (is_out ds k item) ds (changed (with_item item) ds k) (λ all. is_out all k item ≡ true) (λ out. out)
+    cond_both (is_out ds k item) ds (with_changed (with_item item) ds k) (λ all. is_out all k item ≡ true) (λ out. out)
     (λ none. ap (λ e. has item e.items) (at-changed ds k (with_item item d) within) ∙ has-push item item d.items ∙ ap₂ (λ a b. a || b) none (eq-eqb item item refl))
 
 flies-put : (item : ℕ) (ds : List Destination) (k line : ℕ) → k < length ds → flies_at (put item ds k) line ≡ flies_at ds line
@@ -284,8 +284,8 @@ pub record IsEnded (k : ℕ) (ds after : List Destination) : Type 0 where
   pub idle : flies_at after k ≡ false
   pub others : (line : ℕ) → (line ≡ k → ⊥) → destination_at after line ≡ destination_at ds line
 
-pub ended-changed : (f : Destination → Destination) (ds : List Destination) (k : ℕ) → k < length ds → ((d : Destination) → (f d).flying ≡ false) → IsEnded k ds (changed f ds k)
-ended-changed f ds k within idle =
+pub ended-with_changed : (f : Destination → Destination) (ds : List Destination) (k : ℕ) → k < length ds → ((d : Destination) → (f d).flying ≡ false) → IsEnded k ds (with_changed f ds k)
+ended-with_changed f ds k within idle =
     record {
       long = length-set ds k (f (destination_at ds k));
       idle = ap (λ d. d.flying) (at-changed ds k (f (destination_at ds k)) within) ∙ idle (destination_at ds k);

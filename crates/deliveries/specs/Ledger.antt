@@ -41,8 +41,8 @@ is_flying ds routes thing line =
     option_map_or (is_thing thing) (thing_in_flight ds routes line) false
 
 -- the progress of all, with that of one thing changed where that is out; `None` drops it
-abbrev pub marked_of : List Outbox → Thing → Option Progress → Thing → Option Progress
-marked_of boxes one to thing =
+abbrev pub progress_with : List Outbox → Thing → Option Progress → Thing → Option Progress
+progress_with boxes one to thing =
     if is_thing one thing then option_and_then (λ _. to) (progress_of boxes thing)
     else progress_of boxes thing
 
@@ -50,7 +50,7 @@ marked_of boxes one to thing =
 abbrev pub IsMarked : Option Thing → Option Progress → List Outbox → List Outbox → Type 0
 IsMarked None to old new = new ≡ old
 IsMarked (Some one) to old new =
-    (thing : Thing) → progress_of new thing ≡ marked_of old one to thing
+    (thing : Thing) → progress_of new thing ≡ progress_with old one to thing
 
 -- that of what is in flight to a destination
 abbrev pub IsSettled : Ledger → ℕ → Option Progress → List Outbox → Type 0

@@ -8,7 +8,7 @@ use Rattle.courier.specs.Table.{IsNextOrQuiet, after_next, put}
 use Rattle.deliveries.specs.declared.thing.Thing.{Thing}
 use Rattle.deliveries.specs.declared.flight.Flight as given
 use Rattle.deliveries.specs.Ledger.{due_thing, is_waiting}
-use Rattle.deliveries.specs.Outbox.{Outbox, Told, progress_in, seen_again}
+use Rattle.deliveries.specs.Outbox.{Outbox, SpawnDestinations, progress_in, seen_again}
 use Rattle.deliveries.specs.Routes.{Routes, is_thing, line_of, thing_at}
 
 -- ---- what is put
@@ -28,7 +28,7 @@ abbrev pub thing_of : ℕ → ℕ × ℕ → Thing
 thing_of controller told = record { controller = controller; spawn = told.0 }
 
 -- what was put is what waits of what is told, one behind the other
-pub record IsPut (controller : ℕ) (box : Outbox) (out : Told) (old : List Destination) (routes : Routes) (new : List Destination) : Type 0 where
+pub record IsPut (controller : ℕ) (box : Outbox) (out : SpawnDestinations) (old : List Destination) (routes : Routes) (new : List Destination) : Type 0 where
   pub puts : Puts
   pub things : map (λ p. thing_at routes p.0) puts
       ≡ map (λ o. Some (thing_of controller o)) (filter (waits_again box) out)

@@ -3,7 +3,7 @@ ghost use Rattle.std.specs.Prelude.{IfOk, IfSome, OnOk, OnErr, is_some, if◌the
 ghost use Rattle.courier.specs.Destination as words;
 ghost use Rattle.courier.specs.Table as table;
 ghost use Rattle.deliveries.specs.Ledger as ledger;
-ghost use Rattle.deliveries.specs.Outbox.{looked, progress_in};
+ghost use Rattle.deliveries.specs.Outbox.{progress_after_look, progress_in};
 ghost use Rattle.deliveries.specs.Sending.{IsGiven, IsPut};
 ghost use Rattle.deliveries.specs.declared.progress.Progress.TheVariants as progress;
 ghost use Rattle.deliveries.specs.declared.thing.Thing.{Thing};
@@ -23,7 +23,7 @@ use ticket_items::SpawnId;
 /// What the controllers of a server have out, and what of it is to be sent next. Controllers and
 /// destinations have numbers from 0. A look costs as many look-ups as spawns are out; each other
 /// call costs the logarithm of how many destinations there are, and of how much is out to one, but
-/// for a call of `heard` that ends a waiting, which walks over the destinations that wait.
+/// for a call of `hear_from` that ends a waiting, which walks over the destinations that wait.
 #[derive(Drop)]
 pub struct Deliveries {
     courier: Courier,
@@ -98,7 +98,7 @@ impl Deliveries {
         // was put.
         // By `looked`, `others`, `put`, `boxes`, `err`.
         ensures looked { OnOk result ((s : ℕ) → progress_in (ledger.outbox_at self.new.outboxes controller) s
-            ≡ looked (ledger.outbox_at self.old.outboxes controller) out.now s) }
+            ≡ progress_after_look (ledger.outbox_at self.old.outboxes controller) out.now s) }
         ensures others { OnOk result ((k : ℕ) → (k ≡ controller → ⊥)
             → ledger.outbox_at self.new.outboxes k ≡ ledger.outbox_at self.old.outboxes k) }
         ensures put { OnOk result (IsPut controller (ledger.outbox_at self.old.outboxes controller)
@@ -165,28 +165,28 @@ impl Deliveries {
     }
 
     /// What is in flight to a destination failed: it goes behind the others of that.
-    pub fn failed(&mut self, line: usize, now: u64)
+    pub fn fail_flight(&mut self, line: usize, now: u64)
         // Wants: a destination to which something is in flight.
         requires { table.flies_at self.old.destinations line ≡ true }
         // Proved: A failure changes no progress.
         ensures { self.new ≡ record self.old {
-          destinations = table.changed (words.failed now) self.old.destinations line;
+          destinations = table.with_changed (words.after_failed_try now) self.old.destinations line;
         } }
     {
-        self.courier.failed(line, now);
+        self.courier.fail_flight(line, now);
     }
 
     /// An answer accepts what is in flight to a destination.
-    pub fn taken(&mut self, line: usize, now: u64)
+    pub fn accept_flight(&mut self, line: usize, now: u64)
         // Wants: a destination to which something is in flight.
         requires { table.flies_at self.old.destinations line ≡ true }
         // Proved: An answer that accepts or refuses what is in flight changes its progress to that
         // where it is still out, one that it wasn't sent drops it, and no other progress is
         // changed.
-        // By `destinations`, `routes`, `progress`; `Deliveries::refused`, `Deliveries::withdrawn`:
-        // `destinations`, `routes`, `progress`.
+        // By `destinations`, `routes`, `progress`; `Deliveries::refuse_flight`,
+        // `Deliveries::withdraw_flight`: `destinations`, `routes`, `progress`.
         ensures destinations { self.new.destinations
-            ≡ table.changed (words.settled now) self.old.destinations line }
+            ≡ table.with_changed (words.after_answer now) self.old.destinations line }
         ensures routes { self.new.routes ≡ self.old.routes }
         ensures progress { ledger.IsSettled self.old line (Some progress.Taken) self.new.outboxes }
     {
@@ -197,15 +197,15 @@ impl Deliveries {
             line,
             Some(Progress::Taken),
         );
-        self.courier.settled(line, now);
+        self.courier.settle_flight(line, now);
     }
 
     /// An answer refuses what is in flight to a destination, with this number.
-    pub fn refused(&mut self, line: usize, number: u16, now: u64)
+    pub fn refuse_flight(&mut self, line: usize, number: u16, now: u64)
         // Wants: a destination to which something is in flight.
         requires { table.flies_at self.old.destinations line ≡ true }
         ensures destinations { self.new.destinations
-            ≡ table.changed (words.settled now) self.old.destinations line }
+            ≡ table.with_changed (words.after_answer now) self.old.destinations line }
         ensures routes { self.new.routes ≡ self.old.routes }
         ensures progress { ledger.IsSettled self.old line (Some (progress.Refused number))
             self.new.outboxes }
@@ -217,42 +217,43 @@ impl Deliveries {
             line,
             Some(Progress::Refused(number)),
         );
-        self.courier.settled(line, now);
+        self.courier.settle_flight(line, now);
     }
 
     /// What is in flight to a destination wasn't sent, since it turned out to be out no longer.
-    pub fn withdrawn(&mut self, line: usize)
+    pub fn withdraw_flight(&mut self, line: usize)
         // Wants: a destination to which something is in flight.
         requires { table.flies_at self.old.destinations line ≡ true }
         ensures destinations { self.new.destinations
-            ≡ table.changed words.withdrawn self.old.destinations line }
+            ≡ table.with_changed words.after_withdrawal self.old.destinations line }
         ensures routes { self.new.routes ≡ self.old.routes }
         ensures progress { ledger.IsSettled self.old line None self.new.outboxes }
     {
         mark(&self.courier, &self.routes, &mut self.boxes, line, None);
-        self.courier.withdrawn(line);
+        self.courier.withdraw_flight(line);
     }
 
     /// Something came from a destination, so it is there: what waits for it may be sent at once. An
     /// unknown number changes nothing.
-    pub fn heard(&mut self, line: usize, now: u64)
+    pub fn hear_from(&mut self, line: usize, now: u64)
         // Proved: A destination that is heard from is due then, and nothing else has changed.
         ensures { self.new ≡ record self.old {
-          destinations = table.changed (words.heard now) self.old.destinations line;
+          destinations = table.with_changed (words.after_hearing now) self.old.destinations line;
         } }
     {
-        self.courier.heard(line, now);
+        self.courier.hear_from(line, now);
     }
 
     /// What a controller has out of a spawn is to be sent once more. Answers whether it has it out.
-    pub fn again(&mut self, controller: usize, spawn: SpawnId) -> Result<bool, AllocError>
+    pub fn give_again(&mut self, controller: usize, spawn: SpawnId) -> Result<bool, AllocError>
         // Proved: What is settled isn't given again, until a look drops it or it is to go once
         // more.
         // By `out`, `progress`, `put`, `same`, `boxes`, `lines`.
         ensures out { IfOk result (λ out. out ≡ is_some
             (progress_in (ledger.outbox_at self.old.outboxes controller) spawn)) }
         ensures progress { OnOk result ((t : Thing) → ledger.progress_of self.new.outboxes t
-            ≡ ledger.marked_of self.old.outboxes (record { controller = controller; spawn = spawn })
+            ≡ ledger.progress_with self.old.outboxes
+            (record { controller = controller; spawn = spawn })
             (Some progress.Waiting) t) }
         ensures put { IfOk result (λ out. out ≡ true
             → ledger.IsPutAgain (record { controller = controller; spawn = spawn })

@@ -45,7 +45,7 @@ pub(crate) fn next_due(
                 spawn: thing.spawn,
             });
         }
-        courier.withdrawn(flight.line);
+        courier.withdraw_flight(flight.line);
     }
     None
 }

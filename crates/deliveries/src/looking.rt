@@ -5,7 +5,7 @@ ghost use Rattle.std.specs.Prelude.{if◌then◌else◌, is_some, take};
 ghost use Rattle.courier.specs.Table as table;
 ghost use Rattle.deliveries.specs.Ledger.{IsHeld, IsInLine, IsRouted, is_waiting, line_for};
 ghost use Rattle.deliveries.specs.Ledger.{IsMarked, thing_in_flight};
-ghost use Rattle.deliveries.specs.Outbox.{looked, progress_in, seen_again};
+ghost use Rattle.deliveries.specs.Outbox.{progress_after_look, progress_in, seen_again};
 ghost use Rattle.deliveries.specs.Routes.{is_thing, line_of, thing_at};
 ghost use Rattle.deliveries.specs.Sending.{IsKnown, IsPut};
 ghost use Rattle.deliveries.specs.declared.thing.Thing.{Thing};
@@ -107,7 +107,8 @@ pub(crate) fn send_all(
 ) -> Result<Outbox, AllocError>
     requires within { All (λ o. o.1 < length courier.old) out.now }
     requires routed { IsRouted courier.old routes.old }
-    ensures looked { IfOk result (λ new. (s : ℕ) → progress_in new s ≡ looked had.now out.now s) }
+    ensures looked { IfOk result (λ new. (s : ℕ) → progress_in new s
+        ≡ progress_after_look had.now out.now s) }
     ensures held { IfOk result (λ new. (s : ℕ) → IsHeld courier.new routes.new
         (record { controller = controller; spawn = s }) (progress_in new s)) }
     ensures put { OnOk result (IsPut controller had.now out.now courier.old routes.new courier.new) }

@@ -1,6 +1,6 @@
 ghost use Rattle.std.specs.Prelude.{◌≡◌, ◌==◌, ℕ, [], Some, OnOk, OnErr};
 ghost use Rattle.std.specs.Prelude.{if◌then◌else◌};
-ghost use Rattle.deliveries.specs.Outbox.{marked, progress_in};
+ghost use Rattle.deliveries.specs.Outbox.{progress_after, progress_in};
 
 use crate::progress::Progress;
 use indexmap::IndexMap;
@@ -51,7 +51,7 @@ impl Outbox {
 
     /// Changes the progress of a spawn, if it is out. With `None` it is out no longer.
     pub(crate) fn mark(&mut self, spawn: SpawnId, to: Option<Progress>)
-        ensures { (s : ℕ) → progress_in self.new s ≡ marked self.old spawn to s }
+        ensures { (s : ℕ) → progress_in self.new s ≡ progress_after self.old spawn to s }
     {
         match to {
             None => {

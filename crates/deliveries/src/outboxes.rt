@@ -1,5 +1,5 @@
 ghost use Rattle.std.specs.Prelude.{◌≡◌, ◌<◌, ◌==◌, ℕ, [], length, if◌then◌else◌, OnOk};
-ghost use Rattle.deliveries.specs.Ledger.{marked_of, outbox_at, progress_of};
+ghost use Rattle.deliveries.specs.Ledger.{outbox_at, progress_of, progress_with};
 ghost use Rattle.deliveries.specs.declared.thing.Thing.{Thing};
 
 use crate::outbox::Outbox;
@@ -74,7 +74,7 @@ impl Outboxes {
 
     /// Changes the progress of a thing, if it is out. With `None` it is out no longer.
     pub(crate) fn mark(&mut self, thing: &Thing, to: Option<Progress>)
-        ensures { (t : Thing) → progress_of self.new t ≡ marked_of self.old thing.now to t }
+        ensures { (t : Thing) → progress_of self.new t ≡ progress_with self.old thing.now to t }
     {
         if thing.controller < self.boxes.len() {
             self.boxes[thing.controller].mark(thing.spawn, to);

@@ -4,8 +4,8 @@ use Rattle.std.specs.Prelude.{Option, Some, None, Result, Ok, Err}
 use Rattle.std.specs.Str.{IsUtf8}
 use Rattle.json.specs.Find.{at}
 use Rattle.json.specs.Json.{Json, null, boolean, number, string, array, object, Items, item, no_items, document}
-use Rattle.cells.specs.declared.swapped.Swapped.{Swapped}
-use Rattle.cells.specs.declared.swapped.Swapped.TheVariants.{Made, Other, Unknown}
+use Rattle.cells.specs.declared.swapped.SwapResult.{SwapResult}
+use Rattle.cells.specs.declared.swapped.SwapResult.TheVariants.{Made, Other, Unknown}
 use Rattle.etcd_wire.specs.Answer.{Answers, DidNot, Succeeded, Tells, TellsSwap}
 use Rattle.etcd_wire.specs.Request.{one}
 use Rattle.etcd_wire.specs.declared.no_answer.NoAnswer.{NoAnswer}
@@ -19,7 +19,7 @@ ok_same m n same = cc same
 pub err_same : {A : Type 0} (e f : NoAnswer) → ◌≡◌ {A = Result A NoAnswer} (Err e) (Err f) → e ≡ f
 err_same e f same = cc same
 
-pub tells_swap : (status : ℕ) (body : List ℕ) (j : Json) (r : Swapped) → status ≡ 200 → IsUtf8 body → document body ≡ Some j → ((revision : ℕ) → r ≡ Made revision → Answers j revision × Succeeded j) → (r ≡ Other → ((n : ℕ) × Answers j n) × DidNot j) → (r ≡ Unknown → (n : ℕ) → Answers j n → Succeeded j ⊎ DidNot j → ⊥) → TellsSwap status body r
+pub tells_swap : (status : ℕ) (body : List ℕ) (j : Json) (r : SwapResult) → status ≡ 200 → IsUtf8 body → document body ≡ Some j → ((revision : ℕ) → r ≡ Made revision → Answers j revision × Succeeded j) → (r ≡ Other → ((n : ℕ) × Answers j n) × DidNot j) → (r ≡ Unknown → (n : ℕ) → Answers j n → Succeeded j ⊎ DidNot j → ⊥) → TellsSwap status body r
 tells_swap status body j (Made revision) ok utf8 reads made other unknown =
     let told = made revision refl in
     record { is_ok = ok; utf8 = utf8; json = j; reads = reads; revision = revision; answers = told.0; tells = (refl, told.1) }

@@ -6,8 +6,8 @@ use Rattle.json.specs.Find.{get}
 use Rattle.json.specs.Json.{Json, boolean, string, document}
 use Rattle.base64.specs.GeneralPurpose.{IsBytes}
 use Rattle.cells.specs.Chain.{Version}
-use Rattle.cells.specs.declared.swapped.Swapped.{Swapped}
-use Rattle.cells.specs.declared.swapped.Swapped.TheVariants.{Made, Other, Unknown}
+use Rattle.cells.specs.declared.swapped.SwapResult.{SwapResult}
+use Rattle.cells.specs.declared.swapped.SwapResult.TheVariants.{Made, Other, Unknown}
 use Rattle.etcd_wire.specs.Request.{encoded, one}
 
 -- the number stands under the name, as a text in decimal
@@ -55,7 +55,7 @@ abbrev pub DidNot : Json → Type 0
 DidNot j = (get (codes "succeeded") j ≡ None) ⊎ (get (codes "succeeded") j ≡ Some (boolean false))
 
 -- what a status and a body tell of a swap
-abbrev pub TellsSwap : ℕ → List ℕ → Swapped → Type 0
+abbrev pub TellsSwap : ℕ → List ℕ → SwapResult → Type 0
 TellsSwap status body (Made revision) = Tells status body (λ at j. (at ≡ revision) × Succeeded j)
 TellsSwap status body Other = Tells status body (λ at j. DidNot j)
 TellsSwap status body Unknown = Tells status body (λ at j. Succeeded j ⊎ DidNot j) → ⊥

@@ -6,13 +6,13 @@ ghost use Rattle.std.specs.Str.{IsUtf8};
 ghost use Rattle.json.specs.Json.{document};
 ghost use Rattle.json.specs.Value.{value_view};
 ghost use Rattle.etcd_wire.specs.Answer.{Answers, DidNot, HasNumber, Succeeded, TellsSwap};
-ghost use Rattle.cells.specs.declared.swapped.Swapped.{Swapped};
-ghost use Rattle.cells.specs.declared.swapped.Swapped.TheVariants.{Made, Other};
-ghost use Rattle.cells.specs.declared.swapped.Swapped.TheVariants as swapped;
+ghost use Rattle.cells.specs.declared.swapped.SwapResult.{SwapResult};
+ghost use Rattle.cells.specs.declared.swapped.SwapResult.TheVariants.{Made, Other};
+ghost use Rattle.cells.specs.declared.swapped.SwapResult.TheVariants as swapped;
 ghost use Rattle.etcd_wire.specs.declared.no_answer.NoAnswer.TheVariants.{Unknown};
 
 use crate::no_answer::NoAnswer;
-use cells::Swapped;
+use cells::SwapResult;
 use itoa::Buffer;
 use json::{Error, Scratch, Value};
 use std::alloc::{AllocError, Global};
@@ -87,25 +87,25 @@ fn is_made(answer: &Value<'_>) -> Option<bool>
 
 /// What a status and a body tell of a swap or a touch. Anything but a 200 whose JSON has a revision
 /// in its header leaves it unknown.
-pub fn swapped_of(alloc: Global, status: u16, body: &[u8]) -> Result<Swapped, AllocError>
+pub fn swapped_of(alloc: Global, status: u16, body: &[u8]) -> Result<SwapResult, AllocError>
     // Proved: An answer tells that a swap was made, and at which revision, or that its comparison
     // didn't hold, just where it is one that says so; anything else leaves it unknown.
     ensures { IfOk result (TellsSwap status body.now) }
 {
     if status != 200 {
-        return Ok(Swapped::Unknown);
+        return Ok(SwapResult::Unknown);
     }
     let mut scratch = Scratch::new(alloc);
     let answer = match parsed(alloc, body, &mut scratch) {
         Ok(answer) => answer,
         Err(NoAnswer::Memory) => return Err(AllocError),
-        Err(NoAnswer::Unknown) => return Ok(Swapped::Unknown),
+        Err(NoAnswer::Unknown) => return Ok(SwapResult::Unknown),
     };
     Ok(told_in(&answer))
 }
 
 /// What an answer tells of a swap.
-fn told_in(answer: &Value<'_>) -> Swapped
+fn told_in(answer: &Value<'_>) -> SwapResult
     ensures made { (revision : ℕ) → result ≡ Made revision →
         Answers (value_view answer.now) revision × Succeeded (value_view answer.now) }
     ensures other { result ≡ Other →
@@ -114,11 +114,11 @@ fn told_in(answer: &Value<'_>) -> Swapped
         → Succeeded (value_view answer.now) ⊎ DidNot (value_view answer.now) → ⊥ }
 {
     let Some(revision) = revision_of(answer) else {
-        return Swapped::Unknown;
+        return SwapResult::Unknown;
     };
     match is_made(answer) {
-        Some(true) => Swapped::Made(revision),
-        Some(false) => Swapped::Other,
-        None => Swapped::Unknown,
+        Some(true) => SwapResult::Made(revision),
+        Some(false) => SwapResult::Other,
+        None => SwapResult::Unknown,
     }
 }

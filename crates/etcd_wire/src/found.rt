@@ -13,7 +13,7 @@ use crate::answer::{number_under, parsed, revision_of};
 use crate::no_answer::NoAnswer;
 use base64::DecodeAllocError;
 use base64::engine::general_purpose::STANDARD;
-use cells::Versioned;
+use cells::VersionedValue;
 use json::{Scratch, Value};
 use std::alloc::Global;
 
@@ -46,7 +46,7 @@ fn value_in(alloc: Global, pair: &Value<'_>) -> Result<Vec<u8>, NoAnswer>
 }
 
 /// A value with its revision.
-fn version_in(alloc: Global, pair: &Value<'_>) -> Result<Versioned, NoAnswer>
+fn version_in(alloc: Global, pair: &Value<'_>) -> Result<VersionedValue, NoAnswer>
     ensures ok { IfOk result (IsVersion (value_view pair.now)) }
     ensures unknown { result ≡ Err Unknown →
         (v : Version) → IsVersion (value_view pair.now) v → ⊥ }
@@ -55,7 +55,7 @@ fn version_in(alloc: Global, pair: &Value<'_>) -> Result<Versioned, NoAnswer>
         return Err(NoAnswer::Unknown);
     };
     match value_in(alloc, pair) {
-        Ok(bytes) => Ok(Versioned::new(revision, bytes)),
+        Ok(bytes) => Ok(VersionedValue::new(revision, bytes)),
         Err(fault) => Err(fault),
     }
 }
@@ -74,7 +74,7 @@ fn only<'t, 'a>(list: &'t Value<'a>) -> Option<&'t Value<'a>>
 }
 
 /// What was found.
-fn found_in(alloc: Global, answer: &Value<'_>) -> Result<Option<Versioned>, NoAnswer>
+fn found_in(alloc: Global, answer: &Value<'_>) -> Result<Option<VersionedValue>, NoAnswer>
     ensures ok { IfOk result (IsFound (value_view answer.now)) }
     ensures unknown { result ≡ Err Unknown →
         (found : Option Version) → IsFound (value_view answer.now) found → ⊥ }
@@ -94,7 +94,7 @@ fn found_in(alloc: Global, answer: &Value<'_>) -> Result<Option<Versioned>, NoAn
 /// What a status and a body tell of what is under a key: a value with its revision, or that there
 /// is none. Refuses `Unknown` where they tell nothing, as anything does but a 200 whose JSON has a
 /// revision in its header; and `Memory`.
-pub fn held_of(alloc: Global, status: u16, body: &[u8]) -> Result<Option<Versioned>, NoAnswer>
+pub fn held_of(alloc: Global, status: u16, body: &[u8]) -> Result<Option<VersionedValue>, NoAnswer>
     // Proved: An answer tells a value just where its status is 200, its JSON has a revision in its
     // header, and one value with a revision stands in it, whose bytes are the base64 there or,
     // where that is missing, none; and that there is none just where no list of values stands in

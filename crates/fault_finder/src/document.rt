@@ -2,7 +2,7 @@
 
 use crate::kind::Kind;
 use crate::lines::Lines;
-use crate::located::Located;
+use crate::located::LocatedValue;
 use crate::place::Place;
 use crate::profile::Definition;
 use crate::rule::Rule;
@@ -10,7 +10,7 @@ use crate::said::look_at_message;
 use crate::shapes::look;
 use crate::shops::{look_at_names, look_at_orders, look_at_worker};
 use crate::states::look_at_state;
-use crate::text::{Unread, located};
+use crate::text::{ReadFault, located_value};
 use crate::walk::Walk;
 use crate::wholes::look_at_wholes;
 use json::Scratch;
@@ -18,7 +18,7 @@ use std::alloc::{AllocError, Global};
 use ticket_items::Refusal;
 
 /// The definition of what a document of a kind is.
-fn definition_of(document: &Located<'_>, kind: Kind) -> Definition {
+fn definition_of(document: &LocatedValue<'_>, kind: Kind) -> Definition {
     match kind {
         Kind::Ticket => Definition::Ticket,
         Kind::Edits => Definition::EditInput,
@@ -36,7 +36,7 @@ fn definition_of(document: &Located<'_>, kind: Kind) -> Definition {
 /// Looks at a document of a kind.
 fn look_at_document<'a>(
     walk: &mut Walk<'a>,
-    document: &Located<'a>,
+    document: &LocatedValue<'a>,
     kind: Kind,
 ) -> Result<(), AllocError> {
     let definition = definition_of(document, kind);
@@ -79,10 +79,10 @@ fn look_at_bytes<'a>(
             return tell_not_json(walk, error.valid_up_to(), "the byte is none of UTF-8");
         }
     };
-    match located(walk.alloc, text, scratch) {
+    match located_value(walk.alloc, text, scratch) {
         Ok(document) => look_at_document(walk, &document, kind),
-        Err(Unread::At(at, what)) => tell_not_json(walk, at, what),
-        Err(Unread::Memory) => Err(AllocError),
+        Err(ReadFault::At(at, what)) => tell_not_json(walk, at, what),
+        Err(ReadFault::Memory) => Err(AllocError),
     }
 }
 

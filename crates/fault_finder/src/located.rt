@@ -3,32 +3,32 @@ use crate::rule::Member;
 /// A value of a text, and where it begins, in bytes from the text's first. Of a name that stands
 /// twice in an object it has the last value alone, as the readers do.
 #[derive(Drop)]
-pub(crate) enum Located<'a> {
+pub(crate) enum LocatedValue<'a> {
     Null(usize),
     Truth(usize, bool),
     Number(usize, &'a str),
     Text(usize, &'a str),
-    List(usize, Vec<Located<'a>>),
-    Object(usize, Vec<(&'a str, Located<'a>)>),
+    List(usize, Vec<LocatedValue<'a>>),
+    Object(usize, Vec<(&'a str, LocatedValue<'a>)>),
 }
 
-impl<'a> Located<'a> {
+impl<'a> LocatedValue<'a> {
     /// Where it begins.
     pub(crate) fn at(&self) -> usize {
         match self {
-            Located::Null(at)
-            | Located::Truth(at, _)
-            | Located::Number(at, _)
-            | Located::Text(at, _)
-            | Located::List(at, _)
-            | Located::Object(at, _) => *at,
+            LocatedValue::Null(at)
+            | LocatedValue::Truth(at, _)
+            | LocatedValue::Number(at, _)
+            | LocatedValue::Text(at, _)
+            | LocatedValue::List(at, _)
+            | LocatedValue::Object(at, _) => *at,
         }
     }
 
     /// The text that it is.
     pub(crate) fn text(&self) -> Option<&'a str> {
         match self {
-            Located::Text(_, text) => Some(text),
+            LocatedValue::Text(_, text) => Some(text),
             _ => None,
         }
     }
@@ -36,29 +36,29 @@ impl<'a> Located<'a> {
     /// The whole number that it is.
     pub(crate) fn whole(&self) -> Option<u64> {
         match self {
-            Located::Number(_, digits) => fast_float::parse_u64(digits.as_bytes()).ok(),
+            LocatedValue::Number(_, digits) => fast_float::parse_u64(digits.as_bytes()).ok(),
             _ => None,
         }
     }
 
     /// The items of the list that it is.
-    pub(crate) fn items(&self) -> &[Located<'a>] {
+    pub(crate) fn items(&self) -> &[LocatedValue<'a>] {
         match self {
-            Located::List(_, items) => items.as_slice(),
+            LocatedValue::List(_, items) => items.as_slice(),
             _ => &[],
         }
     }
 
     /// The members of the object that it is.
-    pub(crate) fn members(&self) -> &[(&'a str, Located<'a>)] {
+    pub(crate) fn members(&self) -> &[(&'a str, LocatedValue<'a>)] {
         match self {
-            Located::Object(_, members) => members.as_slice(),
+            LocatedValue::Object(_, members) => members.as_slice(),
             _ => &[],
         }
     }
 
     /// What stands under a name in the object that it is.
-    pub(crate) fn member(&self, name: &str) -> Option<&Located<'a>> {
+    pub(crate) fn member(&self, name: &str) -> Option<&LocatedValue<'a>> {
         member_in(self.members(), name)
     }
 
@@ -68,7 +68,7 @@ impl<'a> Located<'a> {
     }
 
     /// The items of the list under a name.
-    pub(crate) fn items_under(&self, name: &str) -> &[Located<'a>] {
+    pub(crate) fn items_under(&self, name: &str) -> &[LocatedValue<'a>] {
         for (other, value) in self.members() {
             if *other == name {
                 return value.items();
@@ -80,22 +80,22 @@ impl<'a> Located<'a> {
     /// What it is, in words.
     pub(crate) fn what(&self) -> &'static str {
         match self {
-            Located::Null(_) => "null",
-            Located::Truth(_, true) => "true",
-            Located::Truth(_, false) => "false",
-            Located::Number(_, _) => "a number",
-            Located::Text(_, _) => "a text",
-            Located::List(_, _) => "a list",
-            Located::Object(_, _) => "an object",
+            LocatedValue::Null(_) => "null",
+            LocatedValue::Truth(_, true) => "true",
+            LocatedValue::Truth(_, false) => "false",
+            LocatedValue::Number(_, _) => "a number",
+            LocatedValue::Text(_, _) => "a text",
+            LocatedValue::List(_, _) => "a list",
+            LocatedValue::Object(_, _) => "an object",
         }
     }
 }
 
 /// What stands under a name among members.
 pub(crate) fn member_in<'v, 'a>(
-    members: &'v [(&'a str, Located<'a>)],
+    members: &'v [(&'a str, LocatedValue<'a>)],
     name: &str,
-) -> Option<&'v Located<'a>> {
+) -> Option<&'v LocatedValue<'a>> {
     for (other, value) in members {
         if *other == name {
             return Some(value);

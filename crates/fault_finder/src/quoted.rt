@@ -9,7 +9,7 @@ const MAX_TOLD: usize = 64;
 /// A text of a document as it is told: between quotes, as JSON has it, and cut where it is long, so
 /// that it stays on its line.
 #[derive(Clone, Copy)]
-pub(crate) struct Quoted<'a>(pub &'a str);
+pub(crate) struct QuotedText<'a>(pub &'a str);
 
 /// Writes a character as JSON has it within quotes. What isn't printed is told by its number.
 fn write_character<W: fmt::Write>(f: &mut fmt::Formatter<W>, character: char) -> fmt::Result {
@@ -24,7 +24,7 @@ fn write_character<W: fmt::Write>(f: &mut fmt::Formatter<W>, character: char) ->
     }
 }
 
-impl fmt::Display for Quoted<'_> {
+impl fmt::Display for QuotedText<'_> {
     fn fmt<W: fmt::Write>(&self, f: &mut fmt::Formatter<W>) -> fmt::Result {
         f.write_str("\"")?;
         for (place, character) in self.0.chars().enumerate() {
@@ -38,7 +38,7 @@ impl fmt::Display for Quoted<'_> {
 }
 
 /// Words, each between quotes, with commas between them.
-pub(crate) fn listed(alloc: Global, words: &[&str]) -> Result<String, AllocError> {
+pub(crate) fn quoted_list(alloc: Global, words: &[&str]) -> Result<String, AllocError> {
     let mut list = String::new(alloc);
     for word in words {
         if !list.is_empty() {

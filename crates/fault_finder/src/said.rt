@@ -1,7 +1,7 @@
 //! What no schema can say of a message: which of its members go together.
 
-use crate::located::Located;
-use crate::quoted::Quoted;
+use crate::located::LocatedValue;
+use crate::quoted::QuotedText;
 use crate::walk::Walk;
 use std::alloc::AllocError;
 use ticket_items::Refusal;
@@ -9,7 +9,7 @@ use ticket_items::Refusal;
 /// Looks at what a message says.
 pub(crate) fn look_at_message<'a>(
     walk: &mut Walk<'a>,
-    document: &Located<'a>,
+    document: &LocatedValue<'a>,
 ) -> Result<(), AllocError> {
     let Some(jmf) = document.member("JMF") else {
         return Ok(());
@@ -30,7 +30,7 @@ pub(crate) fn look_at_message<'a>(
 }
 
 /// The object that tells a command's queue entry, and its name.
-fn params_of<'v, 'a>(command: &'v Located<'a>) -> Option<(&'a str, &'v Located<'a>)> {
+fn params_of<'v, 'a>(command: &'v LocatedValue<'a>) -> Option<(&'a str, &'v LocatedValue<'a>)> {
     for (name, value) in command.members() {
         if name.ends_with("Params") {
             return Some((*name, value));
@@ -40,25 +40,25 @@ fn params_of<'v, 'a>(command: &'v Located<'a>) -> Option<(&'a str, &'v Located<'
 }
 
 /// The SpawnID that a command tells.
-fn entry_of<'a>(command: &Located<'a>) -> Option<&'a str> {
+fn entry_of<'a>(command: &LocatedValue<'a>) -> Option<&'a str> {
     params_of(command)?.1.text_under("QueueEntryID")
 }
 
 /// Tells that the text under a name isn't one that ends in another text.
 fn look_at_text<'a>(
     walk: &mut Walk<'a>,
-    object: &Located<'a>,
+    object: &LocatedValue<'a>,
     name: &'a str,
     wanted: &str,
     what: &str,
 ) -> Result<(), AllocError> {
-    let Some(Located::Text(at, text)) = object.member(name) else {
+    let Some(LocatedValue::Text(at, text)) = object.member(name) else {
         return Ok(());
     };
     if *text == wanted || !walk.seeks(Refusal::WrongMessage) {
         return Ok(());
     }
-    let told = format!(in walk.alloc; "{} isn't {}, {what}", Quoted(text), Quoted(wanted))?;
+    let told = format!(in walk.alloc; "{} isn't {}, {what}", QuotedText(text), QuotedText(wanted))?;
     walk.enter(name)?;
     walk.tell(*at, told.as_str())?;
     walk.leave();
@@ -77,8 +77,8 @@ fn front_of(params: &str) -> &'static str {
 /// Looks at a command: its ID is that of its queue entry, and it is answered to its sender.
 fn look_at_command<'a>(
     walk: &mut Walk<'a>,
-    jmf: &Located<'a>,
-    command: &Located<'a>,
+    jmf: &LocatedValue<'a>,
+    command: &LocatedValue<'a>,
 ) -> Result<(), AllocError> {
     let (Some((name, params)), Some(entry)) = (params_of(command), entry_of(command)) else {
         return Ok(());
@@ -119,7 +119,10 @@ fn type_of(id: &str) -> &'static str {
 }
 
 /// Looks at a response: its ID, Type and queue entry are those of the command that it is to.
-fn look_at_response<'a>(walk: &mut Walk<'a>, response: &Located<'a>) -> Result<(), AllocError> {
+fn look_at_response<'a>(
+    walk: &mut Walk<'a>,
+    response: &LocatedValue<'a>,
+) -> Result<(), AllocError> {
     let Some(command) = response.text_under("refID") else {
         return Ok(());
     };
@@ -145,8 +148,8 @@ fn look_at_response<'a>(walk: &mut Walk<'a>, response: &Located<'a>) -> Result<(
 /// Looks at the part beside a command, which is that of its queue entry.
 fn look_at_part<'a>(
     walk: &mut Walk<'a>,
-    document: &Located<'a>,
-    jmf: &Located<'a>,
+    document: &LocatedValue<'a>,
+    jmf: &LocatedValue<'a>,
 ) -> Result<(), AllocError> {
     let (Some(part), Some(command)) = (document.member("JDF"), jmf.member("Command")) else {
         return Ok(());

@@ -1,8 +1,8 @@
 //! The rules of the schema: members, kinds, and what a value is by itself.
 
-use crate::located::{Located, member_in, rule_in};
+use crate::located::{LocatedValue, member_in, rule_in};
 use crate::profile::Definition;
-use crate::quoted::{Quoted, listed};
+use crate::quoted::{QuotedText, quoted_list};
 use crate::rule::{Member, Rule};
 use crate::walk::{Setting, Walk};
 use crate::weight::lightest;
@@ -36,7 +36,7 @@ fn text_fits(text: &str, rule: Rule) -> bool {
 }
 
 /// Whether a list is what a rule wants.
-fn items_fit(items: &[Located<'_>], rule: Rule) -> bool {
+fn items_fit(items: &[LocatedValue<'_>], rule: Rule) -> bool {
     match rule {
         Rule::NoItems => items.is_empty(),
         Rule::Names => items.iter().all(|item| fits_text(item, Rule::Name)),
@@ -48,15 +48,15 @@ fn items_fit(items: &[Located<'_>], rule: Rule) -> bool {
 }
 
 /// Whether a value is a text that a rule wants.
-fn fits_text(value: &Located<'_>, rule: Rule) -> bool {
+fn fits_text(value: &LocatedValue<'_>, rule: Rule) -> bool {
     match value {
-        Located::Text(_, text) => text_fits(text, rule),
+        LocatedValue::Text(_, text) => text_fits(text, rule),
         _ => false,
     }
 }
 
 /// Whether members are texts under names.
-fn are_attributes<'a>(members: &[(&'a str, Located<'a>)]) -> bool {
+fn are_attributes<'a>(members: &[(&'a str, LocatedValue<'a>)]) -> bool {
     for (name, value) in members {
         if !is_name(name) || !fits_text(value, Rule::Text) {
             return false;
@@ -66,17 +66,17 @@ fn are_attributes<'a>(members: &[(&'a str, Located<'a>)]) -> bool {
 }
 
 /// Whether a value is what a rule wants, of which no object and no list of objects is.
-pub(crate) fn fits_alone(value: &Located<'_>, rule: Rule) -> bool {
+pub(crate) fn fits_alone(value: &LocatedValue<'_>, rule: Rule) -> bool {
     match (value, rule) {
-        (Located::Text(_, text), _) => text_fits(text, rule),
-        (Located::Number(_, _), Rule::Whole) => value.whole().is_some(),
-        (Located::Number(_, _), Rule::Number(low, high)) => match value.whole() {
+        (LocatedValue::Text(_, text), _) => text_fits(text, rule),
+        (LocatedValue::Number(_, _), Rule::Whole) => value.whole().is_some(),
+        (LocatedValue::Number(_, _), Rule::Number(low, high)) => match value.whole() {
             Some(number) => low <= number && number <= high,
             None => false,
         },
-        (Located::Truth(_, truth), Rule::Truth(wanted)) => *truth == wanted,
-        (Located::List(_, items), _) => items_fit(items.as_slice(), rule),
-        (Located::Object(_, members), Rule::Attributes) => are_attributes(members.as_slice()),
+        (LocatedValue::Truth(_, truth), Rule::Truth(wanted)) => *truth == wanted,
+        (LocatedValue::List(_, items), _) => items_fit(items.as_slice(), rule),
+        (LocatedValue::Object(_, members), Rule::Attributes) => are_attributes(members.as_slice()),
         _ => false,
     }
 }
@@ -107,7 +107,7 @@ fn kind_of(rule: Rule) -> &'static str {
 }
 
 /// Tells that a value is of another kind than a rule wants.
-fn tell_kind(walk: &mut Walk<'_>, value: &Located<'_>, rule: Rule) -> Result<(), AllocError> {
+fn tell_kind(walk: &mut Walk<'_>, value: &LocatedValue<'_>, rule: Rule) -> Result<(), AllocError> {
     if !walk.seeks(Refusal::NotProfile) {
         return Ok(());
     }
@@ -123,12 +123,12 @@ fn tell_words(
     text: &str,
     words: &[&str],
 ) -> Result<(), AllocError> {
-    let told = Quoted(text);
+    let told = QuotedText(text);
     let text = match words {
         [one] => format!(in walk.alloc; "{told} isn't \"{one}\"")?,
         [one, other] => format!(in walk.alloc; "{told} is neither \"{one}\" nor \"{other}\"")?,
         _ => {
-            let list = listed(walk.alloc, words)?;
+            let list = quoted_list(walk.alloc, words)?;
             format!(in walk.alloc; "{told} is none of {list}")?
         }
     };
@@ -137,7 +137,7 @@ fn tell_words(
 
 /// Tells what is wrong with a text, at a byte.
 fn tell_text(walk: &mut Walk<'_>, at: usize, text: &str, rule: Rule) -> Result<(), AllocError> {
-    let told = Quoted(text);
+    let told = QuotedText(text);
     let what = match rule {
         Rule::Word(words) => return tell_words(walk, at, text, words),
         Rule::NodeStatus if text == "Spawned" => {
@@ -186,24 +186,24 @@ fn value_refusal(walk: &Walk<'_>, of: Definition, is_mark: bool) -> Refusal {
 /// Tells what is wrong with a value that is an item of no list of objects, and no object.
 fn look_alone(
     walk: &mut Walk<'_>,
-    value: &Located<'_>,
+    value: &LocatedValue<'_>,
     rule: Rule,
     of: Definition,
 ) -> Result<(), AllocError> {
     match (value, rule) {
-        (Located::Text(at, text), _) if wants_text(rule) => {
+        (LocatedValue::Text(at, text), _) if wants_text(rule) => {
             if walk.seeks(text_refusal(walk, text, rule, of)) {
                 return tell_text(walk, *at, text, rule);
             }
             Ok(())
         }
-        (Located::Number(_, _), Rule::Number(_, _)) if value.whole().is_some() => {
+        (LocatedValue::Number(_, _), Rule::Number(_, _)) if value.whole().is_some() => {
             tell_value(walk, value, of, "the number isn't one that is known")
         }
-        (Located::Truth(_, true), Rule::Truth(false)) => {
+        (LocatedValue::Truth(_, true), Rule::Truth(false)) => {
             tell_value(walk, value, of, "true stands where false belongs")
         }
-        (Located::Truth(_, false), Rule::Truth(true)) => {
+        (LocatedValue::Truth(_, false), Rule::Truth(true)) => {
             tell_value(walk, value, of, "false stands where true belongs")
         }
         _ => tell_kind(walk, value, rule),
@@ -213,7 +213,7 @@ fn look_alone(
 /// Tells what is wrong with a value of the right kind.
 fn tell_value(
     walk: &mut Walk<'_>,
-    value: &Located<'_>,
+    value: &LocatedValue<'_>,
     of: Definition,
     what: &str,
 ) -> Result<(), AllocError> {
@@ -227,24 +227,24 @@ fn tell_value(
 #[cycle(look)]
 pub(crate) fn look<'a>(
     walk: &mut Walk<'a>,
-    value: &Located<'a>,
+    value: &LocatedValue<'a>,
     rule: Rule,
     of: Definition,
 ) -> Result<(), AllocError> {
     match (value, rule) {
-        (Located::Object(at, members), Rule::Object(definition)) => {
+        (LocatedValue::Object(at, members), Rule::Object(definition)) => {
             look_at_object(walk, *at, members.as_slice(), definition)
         }
-        (Located::Object(_, members), Rule::Attributes) => {
+        (LocatedValue::Object(_, members), Rule::Attributes) => {
             look_at_attributes(walk, members.as_slice(), of)
         }
-        (Located::List(_, items), Rule::List(definition)) => {
+        (LocatedValue::List(_, items), Rule::List(definition)) => {
             look_at_items(walk, items.as_slice(), Rule::Object(definition), definition)
         }
-        (Located::List(_, items), Rule::Names) => {
+        (LocatedValue::List(_, items), Rule::Names) => {
             look_at_items(walk, items.as_slice(), Rule::Name, of)
         }
-        (Located::List(at, items), Rule::NoItems | Rule::OneSpawnId) => {
+        (LocatedValue::List(at, items), Rule::NoItems | Rule::OneSpawnId) => {
             look_at_marks(walk, *at, items.as_slice(), rule, of)
         }
         _ => {
@@ -260,7 +260,7 @@ pub(crate) fn look<'a>(
 fn look_at_marks(
     walk: &mut Walk<'_>,
     at: usize,
-    items: &[Located<'_>],
+    items: &[LocatedValue<'_>],
     rule: Rule,
     of: Definition,
 ) -> Result<(), AllocError> {
@@ -286,7 +286,7 @@ fn look_at_marks(
 #[cycle(look)]
 fn look_at_items<'a>(
     walk: &mut Walk<'a>,
-    items: &[Located<'a>],
+    items: &[LocatedValue<'a>],
     rule: Rule,
     of: Definition,
 ) -> Result<(), AllocError> {
@@ -302,7 +302,7 @@ fn look_at_items<'a>(
 #[cycle(look)]
 fn look_at_attributes<'a>(
     walk: &mut Walk<'a>,
-    members: &[(&'a str, Located<'a>)],
+    members: &[(&'a str, LocatedValue<'a>)],
     of: Definition,
 ) -> Result<(), AllocError> {
     for (name, value) in members {
@@ -333,7 +333,7 @@ fn setting_in(before: Setting, definition: Definition) -> Setting {
 fn look_at_object<'a>(
     walk: &mut Walk<'a>,
     at: usize,
-    members: &[(&'a str, Located<'a>)],
+    members: &[(&'a str, LocatedValue<'a>)],
     definition: Definition,
 ) -> Result<(), AllocError> {
     let before = walk.setting;
@@ -356,7 +356,7 @@ fn look_at_object<'a>(
 fn tell_missing<'a>(
     walk: &mut Walk<'_>,
     at: usize,
-    members: &[(&'a str, Located<'a>)],
+    members: &[(&'a str, LocatedValue<'a>)],
     object: &[Member],
 ) -> Result<(), AllocError> {
     for member in object {
@@ -375,7 +375,7 @@ fn tell_missing<'a>(
 /// Tells that a value stands under a name that isn't known.
 fn tell_unknown(
     walk: &mut Walk<'_>,
-    value: &Located<'_>,
+    value: &LocatedValue<'_>,
     object: &[Member],
 ) -> Result<(), AllocError> {
     if !walk.seeks(Refusal::NotProfile) {

@@ -1,9 +1,9 @@
 //! What no schema can say of a shop and of a script: names that stand once, and orders that are for
 //! the controller that they go to.
 
-use crate::located::Located;
+use crate::located::LocatedValue;
 use crate::profile::Definition;
-use crate::quoted::Quoted;
+use crate::quoted::QuotedText;
 use crate::rule::Rule;
 use crate::walk::Walk;
 use crate::weight::weigh;
@@ -14,7 +14,7 @@ use ticket_items::Refusal;
 /// Looks at the names of a shop: of a master, under a name, and of its workers.
 pub(crate) fn look_at_names<'a>(
     walk: &mut Walk<'a>,
-    shop: &Located<'a>,
+    shop: &LocatedValue<'a>,
     master: &str,
     refusal: Refusal,
 ) -> Result<(), AllocError> {
@@ -24,7 +24,7 @@ pub(crate) fn look_at_names<'a>(
     }
     walk.enter("Workers")?;
     for (index, worker) in shop.items_under("Workers").iter().enumerate() {
-        if let Located::Text(at, name) = worker {
+        if let LocatedValue::Text(at, name) = worker {
             walk.enter_item(index)?;
             if !before.insert(*name)? {
                 tell_twice(walk, *at, name, refusal)?;
@@ -46,18 +46,18 @@ fn tell_twice(
     if !walk.seeks(refusal) {
         return Ok(());
     }
-    let what = format!(in walk.alloc; "another controller is called {} too", Quoted(name))?;
+    let what = format!(in walk.alloc; "another controller is called {} too", QuotedText(name))?;
     walk.tell(at, what.as_str())
 }
 
 /// Looks at the names of a worker and of its master, which are told apart.
 pub(crate) fn look_at_worker<'a>(
     walk: &mut Walk<'a>,
-    worker: &Located<'a>,
+    worker: &LocatedValue<'a>,
     name: &'a str,
     refusal: Refusal,
 ) -> Result<(), AllocError> {
-    let Some(Located::Text(at, own)) = worker.member(name) else {
+    let Some(LocatedValue::Text(at, own)) = worker.member(name) else {
         return Ok(());
     };
     if worker.text_under("Master") != Some(*own) {
@@ -72,7 +72,7 @@ pub(crate) fn look_at_worker<'a>(
 /// Looks at the orders of a script: those to the master are a master's, all others a worker's.
 pub(crate) fn look_at_orders<'a>(
     walk: &mut Walk<'a>,
-    script: &Located<'a>,
+    script: &LocatedValue<'a>,
 ) -> Result<(), AllocError> {
     let master = script.text_under("Master");
     walk.enter("Events")?;
@@ -92,7 +92,7 @@ pub(crate) fn look_at_orders<'a>(
 /// Looks at an order to a master or to a worker.
 fn look_at_order(
     walk: &mut Walk<'_>,
-    order: &Located<'_>,
+    order: &LocatedValue<'_>,
     to_master: bool,
 ) -> Result<(), AllocError> {
     let (wanted, what) = if to_master {

@@ -1,7 +1,7 @@
 //! What no schema can say of a state: what no controller can have come to.
 
-use crate::located::Located;
-use crate::quoted::Quoted;
+use crate::located::LocatedValue;
+use crate::quoted::QuotedText;
 use crate::shops::{look_at_names, look_at_worker};
 use crate::walk::Walk;
 use std::alloc::AllocError;
@@ -11,7 +11,7 @@ use ticket_items::{Refusal, SpawnId};
 /// Looks at the state that a document is.
 pub(crate) fn look_at_state<'a>(
     walk: &mut Walk<'a>,
-    document: &Located<'a>,
+    document: &LocatedValue<'a>,
 ) -> Result<(), AllocError> {
     if let Some(master) = document.member("Master") {
         walk.enter("Master")?;
@@ -30,7 +30,7 @@ pub(crate) fn look_at_state<'a>(
 
 /// What a master's ticket has.
 #[derive(Drop)]
-struct Known<'a> {
+struct TicketFacts<'a> {
     /// The names of its workers.
     workers: BTreeSet<&'a str>,
     /// The ids of the nodes below the root.
@@ -43,13 +43,13 @@ struct Known<'a> {
 
 /// Adds the ids of a node's resources, and of the nodes below it.
 #[cycle(known)]
-fn add_node<'a>(known: &mut Known<'a>, node: &Located<'a>) -> Result<(), AllocError> {
+fn add_node<'a>(known: &mut TicketFacts<'a>, node: &LocatedValue<'a>) -> Result<(), AllocError> {
     for resource in node.items_under("ResourcePool") {
         if let Some(id) = resource.text_under("ID") {
             known.resources.insert(id)?;
         }
     }
-    if let Located::Object(_, members) = node {
+    if let LocatedValue::Object(_, members) = node {
         for (name, value) in members {
             if *name == "JDF" {
                 add_nodes(known, value)?;
@@ -61,8 +61,8 @@ fn add_node<'a>(known: &mut Known<'a>, node: &Located<'a>) -> Result<(), AllocEr
 
 /// Adds the ids of the nodes of a list, and of those below them.
 #[cycle(known)]
-fn add_nodes<'a>(known: &mut Known<'a>, list: &Located<'a>) -> Result<(), AllocError> {
-    if let Located::List(_, nodes) = list {
+fn add_nodes<'a>(known: &mut TicketFacts<'a>, list: &LocatedValue<'a>) -> Result<(), AllocError> {
+    if let LocatedValue::List(_, nodes) = list {
         for node in nodes {
             if let Some(id) = node.text_under("ID") {
                 known.nodes.insert(id)?;
@@ -74,8 +74,8 @@ fn add_nodes<'a>(known: &mut Known<'a>, list: &Located<'a>) -> Result<(), AllocE
 }
 
 /// What a master has.
-fn known_of<'a>(walk: &Walk<'a>, master: &Located<'a>) -> Result<Known<'a>, AllocError> {
-    let mut known = Known {
+fn known_of<'a>(walk: &Walk<'a>, master: &LocatedValue<'a>) -> Result<TicketFacts<'a>, AllocError> {
+    let mut known = TicketFacts {
         workers: BTreeSet::new(walk.alloc),
         nodes: BTreeSet::new(walk.alloc),
         resources: BTreeSet::new(walk.alloc),
@@ -95,15 +95,15 @@ fn known_of<'a>(walk: &Walk<'a>, master: &Located<'a>) -> Result<Known<'a>, Allo
 /// Tells that a text of a state is wrong, at the value under a name.
 fn tell_text<'a>(
     walk: &mut Walk<'a>,
-    object: &Located<'a>,
+    object: &LocatedValue<'a>,
     name: &'a str,
     what: &str,
 ) -> Result<(), AllocError> {
-    let Some(Located::Text(at, text)) = object.member(name) else {
+    let Some(LocatedValue::Text(at, text)) = object.member(name) else {
         return Ok(());
     };
     if walk.seeks(Refusal::BadState) {
-        let told = format!(in walk.alloc; "{} {what}", Quoted(text))?;
+        let told = format!(in walk.alloc; "{} {what}", QuotedText(text))?;
         walk.enter(name)?;
         walk.tell(*at, told.as_str())?;
         walk.leave();
@@ -112,7 +112,7 @@ fn tell_text<'a>(
 }
 
 /// Looks at the spawns of a master.
-fn look_at_spawns<'a>(walk: &mut Walk<'a>, master: &Located<'a>) -> Result<(), AllocError> {
+fn look_at_spawns<'a>(walk: &mut Walk<'a>, master: &LocatedValue<'a>) -> Result<(), AllocError> {
     let mut known = known_of(walk, master)?;
     walk.enter("Spawns")?;
     for (index, spawn) in master.items_under("Spawns").iter().enumerate() {
@@ -139,9 +139,9 @@ fn is_numbered(text: &str, index: usize) -> bool {
 /// Looks at a spawn: its number, its worker and its node.
 fn look_at_spawn<'a>(
     walk: &mut Walk<'a>,
-    spawn: &Located<'a>,
+    spawn: &LocatedValue<'a>,
     index: usize,
-    known: &Known<'a>,
+    known: &TicketFacts<'a>,
 ) -> Result<(), AllocError> {
     match spawn.text_under("ID") {
         Some(id) if !is_numbered(id, index) => {
@@ -171,8 +171,8 @@ fn look_at_spawn<'a>(
 /// Looks at the copies that went out with a spawn: each is of a resource of the ticket.
 fn look_at_copies<'a>(
     walk: &mut Walk<'a>,
-    spawn: &Located<'a>,
-    known: &Known<'a>,
+    spawn: &LocatedValue<'a>,
+    known: &TicketFacts<'a>,
 ) -> Result<(), AllocError> {
     let unknown = "is no resource of the ticket";
     walk.enter("RO")?;
@@ -188,9 +188,9 @@ fn look_at_copies<'a>(
     walk.enter("RW")?;
     for (index, copy) in spawn.items_under("RW").iter().enumerate() {
         match copy {
-            Located::Text(at, id) if !known.resources.contains(*id) => {
+            LocatedValue::Text(at, id) if !known.resources.contains(*id) => {
                 if walk.seeks(Refusal::BadState) {
-                    let what = format!(in walk.alloc; "{} {unknown}", Quoted(id))?;
+                    let what = format!(in walk.alloc; "{} {unknown}", QuotedText(id))?;
                     walk.enter_item(index)?;
                     walk.tell(*at, what.as_str())?;
                     walk.leave();
@@ -206,23 +206,23 @@ fn look_at_copies<'a>(
 /// Looks at what a spawn that is out claims: its node, and what may be changed with it.
 fn look_at_claims<'a>(
     walk: &mut Walk<'a>,
-    spawn: &Located<'a>,
+    spawn: &LocatedValue<'a>,
     index: usize,
-    known: &mut Known<'a>,
+    known: &mut TicketFacts<'a>,
 ) -> Result<(), AllocError> {
     let claims = spawn
         .member("Node")
         .into_iter()
         .chain(spawn.items_under("RW"));
     for claim in claims {
-        let Located::Text(at, id) = claim else {
+        let LocatedValue::Text(at, id) = claim else {
             continue;
         };
         match known.claims.get(*id) {
             Some(before) if walk.seeks(Refusal::BadState) => {
                 let what = format!(in walk.alloc;
                     "Spawns[{before}] claims {} too, and is out",
-                    Quoted(id)
+                    QuotedText(id)
                 )?;
                 walk.tell(*at, what.as_str())?;
             }
@@ -235,7 +235,7 @@ fn look_at_claims<'a>(
 }
 
 /// The SpawnID of an entry: its own, or in the first format that of its part.
-fn spawn_of<'a>(entry: &Located<'a>) -> Option<&'a str> {
+fn spawn_of<'a>(entry: &LocatedValue<'a>) -> Option<&'a str> {
     match entry.text_under("ID") {
         Some(id) => Some(id),
         None => entry.member("Part")?.text_under("SpawnID"),
@@ -243,14 +243,14 @@ fn spawn_of<'a>(entry: &Located<'a>) -> Option<&'a str> {
 }
 
 /// Looks at the entries of a worker: no two are of one spawn.
-fn look_at_entries<'a>(walk: &mut Walk<'a>, worker: &Located<'a>) -> Result<(), AllocError> {
+fn look_at_entries<'a>(walk: &mut Walk<'a>, worker: &LocatedValue<'a>) -> Result<(), AllocError> {
     let mut before = BTreeSet::new(walk.alloc);
     walk.enter("Entries")?;
     for (index, entry) in worker.items_under("Entries").iter().enumerate() {
         walk.enter_item(index)?;
         if let Some(spawn) = spawn_of(entry) {
             if !before.insert(spawn)? && walk.seeks(Refusal::BadState) {
-                let what = format!(in walk.alloc; "another entry is of {} too", Quoted(spawn))?;
+                let what = format!(in walk.alloc; "another entry is of {} too", QuotedText(spawn))?;
                 walk.tell(entry.at(), what.as_str())?;
             }
         }
@@ -262,7 +262,7 @@ fn look_at_entries<'a>(walk: &mut Walk<'a>, worker: &Located<'a>) -> Result<(), 
 }
 
 /// Looks at an entry: it is its part's, and one that ended has the Status of its end.
-fn look_at_entry<'a>(walk: &mut Walk<'a>, entry: &Located<'a>) -> Result<(), AllocError> {
+fn look_at_entry<'a>(walk: &mut Walk<'a>, entry: &LocatedValue<'a>) -> Result<(), AllocError> {
     let Some(part) = entry.member("Part") else {
         return Ok(());
     };

@@ -2,7 +2,7 @@
 
 ghost use Rattle.std.specs.Prelude.{◌≡◌, ◌<◌, false, length, true, OnOk};
 
-use crate::located::Located;
+use crate::located::LocatedValue;
 use json::{Reader, Scratch, Token};
 use std::alloc::{AllocError, AllocFailed, Global};
 use std::collections::BTreeMap;
@@ -12,60 +12,64 @@ const MAX_DEPTH: usize = 127;
 
 /// Why a text isn't read.
 #[derive(Clone, Copy)]
-pub(crate) enum Unread {
+pub(crate) enum ReadFault {
     /// It is no JSON, or beyond what is read of it, from this byte on.
     At(usize, &'static str),
     /// Memory ran out.
     Memory,
 }
 
-impl From<AllocError> for Unread {
-    fn from(_error: AllocError) -> Unread {
-        Unread::Memory
+impl From<AllocError> for ReadFault {
+    fn from(_error: AllocError) -> ReadFault {
+        ReadFault::Memory
     }
 }
 
-impl<T: Drop> From<AllocFailed<T>> for Unread {
-    fn from(_error: AllocFailed<T>) -> Unread {
-        Unread::Memory
+impl<T: Drop> From<AllocFailed<T>> for ReadFault {
+    fn from(_error: AllocFailed<T>) -> ReadFault {
+        ReadFault::Memory
     }
 }
 
 const NOT_JSON: &str = "from here on it isn't JSON";
 
 /// A number, where a float of 64 bits may be it.
-fn number(at: usize, digits: &str) -> Result<Located<'_>, Unread> {
+fn number(at: usize, digits: &str) -> Result<LocatedValue<'_>, ReadFault> {
     let nearest: Option<f64> = fast_float::parse(digits.as_bytes()).ok();
     match nearest {
-        Some(float) if float.is_finite() => Ok(Located::Number(at, digits)),
-        _ => Err(Unread::At(at, "the number is beyond a 64-bit float")),
+        Some(float) if float.is_finite() => Ok(LocatedValue::Number(at, digits)),
+        _ => Err(ReadFault::At(at, "the number is beyond a 64-bit float")),
     }
 }
 
 /// The next value.
 #[cycle(read)]
-fn read<'a>(alloc: Global, reader: &mut Reader<'a>, depth: usize) -> Result<Located<'a>, Unread>
+fn read<'a>(
+    alloc: Global,
+    reader: &mut Reader<'a>,
+    depth: usize,
+) -> Result<LocatedValue<'a>, ReadFault>
     ensures shorter { OnOk result (length reader.new < length reader.old) }
 {
     let at = reader.offset();
     let Some(token) = reader.next() else {
-        return Err(Unread::At(at, NOT_JSON));
+        return Err(ReadFault::At(at, NOT_JSON));
     };
     match token {
-        Token::String(text) => Ok(Located::Text(at, text)),
+        Token::String(text) => Ok(LocatedValue::Text(at, text)),
         Token::Number(digits) => number(at, digits),
-        Token::Bool(truth) => Ok(Located::Truth(at, truth)),
-        Token::Null => Ok(Located::Null(at)),
+        Token::Bool(truth) => Ok(LocatedValue::Truth(at, truth)),
+        Token::Null => Ok(LocatedValue::Null(at)),
         Token::EndObject | Token::EndArray | Token::Key(_) | Token::Bad => {
-            Err(Unread::At(at, NOT_JSON))
+            Err(ReadFault::At(at, NOT_JSON))
         }
         Token::BeginArray => match depth.checked_sub(1) {
-            Some(left) => Ok(Located::List(at, read_items(alloc, reader, left)?)),
-            None => Err(Unread::At(at, "lists and objects nest deeper than 127")),
+            Some(left) => Ok(LocatedValue::List(at, read_items(alloc, reader, left)?)),
+            None => Err(ReadFault::At(at, "lists and objects nest deeper than 127")),
         },
         Token::BeginObject => match depth.checked_sub(1) {
-            Some(left) => Ok(Located::Object(at, read_members(alloc, reader, left)?)),
-            None => Err(Unread::At(at, "lists and objects nest deeper than 127")),
+            Some(left) => Ok(LocatedValue::Object(at, read_members(alloc, reader, left)?)),
+            None => Err(ReadFault::At(at, "lists and objects nest deeper than 127")),
         },
     }
 }
@@ -84,7 +88,7 @@ fn read_items<'a>(
     alloc: Global,
     reader: &mut Reader<'a>,
     depth: usize,
-) -> Result<Vec<Located<'a>>, Unread>
+) -> Result<Vec<LocatedValue<'a>>, ReadFault>
     ensures shorter { OnOk result (length reader.new < length reader.old) }
 {
     let mut items = Vec::new(alloc);
@@ -95,23 +99,23 @@ fn read_items<'a>(
 }
 
 /// The next name, or none where the object ends.
-fn name<'a>(reader: &mut Reader<'a>) -> Result<Option<&'a str>, Unread>
+fn name<'a>(reader: &mut Reader<'a>) -> Result<Option<&'a str>, ReadFault>
     ensures shorter { OnOk result (length reader.new < length reader.old) }
 {
     let at = reader.offset();
     match reader.next_key() {
         Ok(name) => Ok(name),
-        Err(_) => Err(Unread::At(at, NOT_JSON)),
+        Err(_) => Err(ReadFault::At(at, NOT_JSON)),
     }
 }
 
 /// Puts a value under a name, in place of one that stands there.
 fn put<'a>(
-    members: &mut Vec<(&'a str, Located<'a>)>,
+    members: &mut Vec<(&'a str, LocatedValue<'a>)>,
     places: &mut BTreeMap<&'a str, usize>,
     name: &'a str,
-    value: Located<'a>,
-) -> Result<(), Unread> {
+    value: LocatedValue<'a>,
+) -> Result<(), ReadFault> {
     let place = members.len();
     match places.insert(name, place)? {
         None => members.push((name, value))?,
@@ -131,7 +135,7 @@ fn read_members<'a>(
     alloc: Global,
     reader: &mut Reader<'a>,
     depth: usize,
-) -> Result<Vec<(&'a str, Located<'a>)>, Unread>
+) -> Result<Vec<(&'a str, LocatedValue<'a>)>, ReadFault>
     ensures shorter { OnOk result (length reader.new < length reader.old) }
 {
     let mut members = Vec::new(alloc);
@@ -144,16 +148,16 @@ fn read_members<'a>(
 }
 
 /// The value that a text is.
-pub(crate) fn located<'a>(
+pub(crate) fn located_value<'a>(
     alloc: Global,
     text: &'a str,
     scratch: &'a mut Scratch,
-) -> Result<Located<'a>, Unread> {
+) -> Result<LocatedValue<'a>, ReadFault> {
     let mut reader = Reader::new(text, scratch)?;
     let value = read(alloc, &mut reader, MAX_DEPTH)?;
     let at = reader.offset();
     if reader.next().is_some() {
-        return Err(Unread::At(at, NOT_JSON));
+        return Err(ReadFault::At(at, NOT_JSON));
     }
     Ok(value)
 }

@@ -2,7 +2,7 @@
 
 use crate::lines::Lines;
 use crate::place::Place;
-use crate::quoted::Quoted;
+use crate::quoted::QuotedText;
 use std::alloc::{AllocError, Global};
 use std::fmt;
 use ticket_items::{Refusal, is_name};
@@ -70,7 +70,7 @@ fn write_name<W: fmt::Write>(f: &mut fmt::Formatter<W>, name: &str) -> fmt::Resu
     if is_name(name) {
         f.write_str(name)
     } else {
-        write!(f, "{}", Quoted(name))
+        write!(f, "{}", QuotedText(name))
     }
 }
 

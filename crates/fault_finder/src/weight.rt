@@ -1,6 +1,6 @@
 //! Which of several objects a value is most like.
 
-use crate::located::{Located, member_in, rule_in};
+use crate::located::{LocatedValue, member_in, rule_in};
 use crate::profile::{Definition, objects_of};
 use crate::rule::{Member, Rule};
 use crate::shapes::fits_alone;
@@ -29,18 +29,19 @@ fn is_told_by_word(definition: Definition) -> bool {
 }
 
 /// How much is wrong with a value that no member or item is looked at of.
-fn weigh_alone(value: &Located<'_>, rule: Rule, of: Definition) -> u64 {
+fn weigh_alone(value: &LocatedValue<'_>, rule: Rule, of: Definition) -> u64 {
     if fits_alone(value, rule) {
         return 0;
     }
     match (value, rule) {
-        (Located::Text(_, _), Rule::Word(_)) | (Located::Number(_, _), Rule::Number(_, _)) => {
+        (LocatedValue::Text(_, _), Rule::Word(_))
+        | (LocatedValue::Number(_, _), Rule::Number(_, _)) => {
             if is_told_by_word(of) { TELLING_WORD } else { 1 }
         }
-        (Located::Text(_, _), Rule::Name | Rule::NodeStatus | Rule::SpawnId | Rule::Text) => 1,
-        (Located::Text(_, _), Rule::Begins(_) | Rule::OfSpawn(_, _)) => 1,
-        (Located::Truth(_, _), Rule::Truth(_)) => 1,
-        (Located::List(_, _), _) => 1,
+        (LocatedValue::Text(_, _), Rule::Name | Rule::NodeStatus | Rule::SpawnId | Rule::Text) => 1,
+        (LocatedValue::Text(_, _), Rule::Begins(_) | Rule::OfSpawn(_, _)) => 1,
+        (LocatedValue::Truth(_, _), Rule::Truth(_)) => 1,
+        (LocatedValue::List(_, _), _) => 1,
         _ => MEMBER,
     }
 }
@@ -48,12 +49,12 @@ fn weigh_alone(value: &Located<'_>, rule: Rule, of: Definition) -> u64 {
 /// How much is wrong with a value. Of a list it is at most 1, so that a long one says no more than
 /// a short one.
 #[cycle(weigh)]
-pub(crate) fn weigh(value: &Located<'_>, rule: Rule, of: Definition) -> u64 {
+pub(crate) fn weigh(value: &LocatedValue<'_>, rule: Rule, of: Definition) -> u64 {
     match (value, rule) {
-        (Located::Object(_, members), Rule::Object(definition)) => {
+        (LocatedValue::Object(_, members), Rule::Object(definition)) => {
             weigh_lightest(members.as_slice(), definition)
         }
-        (Located::List(_, items), Rule::List(definition)) => {
+        (LocatedValue::List(_, items), Rule::List(definition)) => {
             weigh_items(items.as_slice(), definition)
         }
         _ => weigh_alone(value, rule, of),
@@ -62,7 +63,7 @@ pub(crate) fn weigh(value: &Located<'_>, rule: Rule, of: Definition) -> u64 {
 
 /// Whether something is wrong with an item, as a number.
 #[cycle(weigh)]
-fn weigh_items(items: &[Located<'_>], definition: Definition) -> u64 {
+fn weigh_items(items: &[LocatedValue<'_>], definition: Definition) -> u64 {
     for item in items {
         if weigh(item, Rule::Object(definition), definition) > 0 {
             return 1;
@@ -73,7 +74,7 @@ fn weigh_items(items: &[Located<'_>], definition: Definition) -> u64 {
 
 /// How much is wrong with members by the object of a definition that they are most like.
 #[cycle(weigh)]
-fn weigh_lightest<'a>(members: &[(&'a str, Located<'a>)], definition: Definition) -> u64 {
+fn weigh_lightest<'a>(members: &[(&'a str, LocatedValue<'a>)], definition: Definition) -> u64 {
     let mut least = u64::MAX;
     for object in objects_of(definition) {
         least = least.min(weigh_members(members, object, definition));
@@ -83,7 +84,11 @@ fn weigh_lightest<'a>(members: &[(&'a str, Located<'a>)], definition: Definition
 
 /// How much is wrong with members.
 #[cycle(weigh)]
-fn weigh_members<'a>(members: &[(&'a str, Located<'a>)], object: &[Member], of: Definition) -> u64 {
+fn weigh_members<'a>(
+    members: &[(&'a str, LocatedValue<'a>)],
+    object: &[Member],
+    of: Definition,
+) -> u64 {
     let mut sum: u64 = 0;
     for (name, value) in members {
         let weight = match rule_in(object, name) {
@@ -96,7 +101,7 @@ fn weigh_members<'a>(members: &[(&'a str, Located<'a>)], object: &[Member], of: 
 }
 
 /// How much is wrong with members for those that are missing.
-fn weigh_missing<'a>(members: &[(&'a str, Located<'a>)], object: &[Member]) -> u64 {
+fn weigh_missing<'a>(members: &[(&'a str, LocatedValue<'a>)], object: &[Member]) -> u64 {
     let mut sum: u64 = 0;
     for member in object {
         if member.is_wanted() && member_in(members, member.name()).is_none() {
@@ -108,7 +113,7 @@ fn weigh_missing<'a>(members: &[(&'a str, Located<'a>)], object: &[Member]) -> u
 
 /// The object of a definition that members are most like.
 pub(crate) fn lightest<'a>(
-    members: &[(&'a str, Located<'a>)],
+    members: &[(&'a str, LocatedValue<'a>)],
     definition: Definition,
 ) -> &'static [Member] {
     let objects = objects_of(definition);

@@ -2,8 +2,8 @@
 //! how deep a node may stand, and how the resources of a part are ordered.
 
 use crate::kind::Kind;
-use crate::located::Located;
-use crate::quoted::Quoted;
+use crate::located::LocatedValue;
+use crate::quoted::QuotedText;
 use crate::walk::Walk;
 use std::alloc::AllocError;
 use std::collections::{BTreeMap, BTreeSet};
@@ -15,7 +15,7 @@ const MAX_DEPTH: usize = 32;
 /// Looks at each ticket and part of a document.
 pub(crate) fn look_at_wholes<'a>(
     walk: &mut Walk<'a>,
-    document: &Located<'a>,
+    document: &LocatedValue<'a>,
     kind: Kind,
 ) -> Result<(), AllocError> {
     match kind {
@@ -33,7 +33,7 @@ pub(crate) fn look_at_wholes<'a>(
 /// Looks at the ticket or part under a name.
 fn look_within<'a>(
     walk: &mut Walk<'a>,
-    value: &Located<'a>,
+    value: &LocatedValue<'a>,
     name: &'a str,
 ) -> Result<(), AllocError> {
     let Some(whole) = value.member(name) else {
@@ -46,7 +46,7 @@ fn look_within<'a>(
 }
 
 /// Looks at the ticket of the master whose state a document is.
-fn look_at_master<'a>(walk: &mut Walk<'a>, document: &Located<'a>) -> Result<(), AllocError> {
+fn look_at_master<'a>(walk: &mut Walk<'a>, document: &LocatedValue<'a>) -> Result<(), AllocError> {
     let Some(master) = document.member("Master") else {
         return Ok(());
     };
@@ -57,7 +57,7 @@ fn look_at_master<'a>(walk: &mut Walk<'a>, document: &Located<'a>) -> Result<(),
 }
 
 /// Looks at the parts of the worker whose state a document is.
-fn look_at_worker<'a>(walk: &mut Walk<'a>, document: &Located<'a>) -> Result<(), AllocError> {
+fn look_at_worker<'a>(walk: &mut Walk<'a>, document: &LocatedValue<'a>) -> Result<(), AllocError> {
     let Some(worker) = document.member("Worker") else {
         return Ok(());
     };
@@ -83,7 +83,7 @@ struct Ids<'a> {
 }
 
 /// Looks at a ticket or a part.
-fn look_at_whole<'a>(walk: &mut Walk<'a>, root: &Located<'a>) -> Result<(), AllocError> {
+fn look_at_whole<'a>(walk: &mut Walk<'a>, root: &LocatedValue<'a>) -> Result<(), AllocError> {
     let mut ids = Ids {
         before: BTreeMap::new(walk.alloc),
         linkable: BTreeSet::new(walk.alloc),
@@ -99,7 +99,7 @@ fn look_at_whole<'a>(walk: &mut Walk<'a>, root: &Located<'a>) -> Result<(), Allo
 #[cycle(nodes)]
 fn look_at_node<'a>(
     walk: &mut Walk<'a>,
-    node: &Located<'a>,
+    node: &LocatedValue<'a>,
     left: usize,
     ids: &mut Ids<'a>,
 ) -> Result<(), AllocError> {
@@ -112,7 +112,7 @@ fn look_at_node<'a>(
     look_at_id(walk, node, ids)?;
     look_at_pool(walk, node, ids)?;
     look_at_links(walk, node, ids)?;
-    if let Located::Object(_, members) = node {
+    if let LocatedValue::Object(_, members) = node {
         for (name, value) in members {
             if *name == "JDF" {
                 look_at_children(walk, value, left, ids)?;
@@ -131,11 +131,11 @@ fn look_at_node<'a>(
 #[cycle(nodes)]
 fn look_at_children<'a>(
     walk: &mut Walk<'a>,
-    list: &Located<'a>,
+    list: &LocatedValue<'a>,
     left: usize,
     ids: &mut Ids<'a>,
 ) -> Result<(), AllocError> {
-    let Located::List(_, nodes) = list else {
+    let LocatedValue::List(_, nodes) = list else {
         return Ok(());
     };
     walk.enter("JDF")?;
@@ -151,17 +151,17 @@ fn look_at_children<'a>(
 /// Looks at the id of a node or a resource, which may stand among those before.
 fn look_at_id<'a>(
     walk: &mut Walk<'a>,
-    value: &Located<'a>,
+    value: &LocatedValue<'a>,
     ids: &mut Ids<'a>,
 ) -> Result<(), AllocError> {
-    let Some(Located::Text(at, id)) = value.member("ID") else {
+    let Some(LocatedValue::Text(at, id)) = value.member("ID") else {
         return Ok(());
     };
     if !walk.seeks(Refusal::DuplicateId) {
         return Ok(());
     }
     if let Some(other) = ids.before.get(*id) {
-        let what = format!(in walk.alloc; "{} stands at {other} too", Quoted(id))?;
+        let what = format!(in walk.alloc; "{} stands at {other} too", QuotedText(id))?;
         walk.enter("ID")?;
         walk.tell(*at, what.as_str())?;
         walk.leave();
@@ -174,7 +174,7 @@ fn look_at_id<'a>(
 /// Looks at the ids of a node's resources.
 fn look_at_pool<'a>(
     walk: &mut Walk<'a>,
-    node: &Located<'a>,
+    node: &LocatedValue<'a>,
     ids: &mut Ids<'a>,
 ) -> Result<(), AllocError> {
     walk.enter("ResourcePool")?;
@@ -193,18 +193,18 @@ fn look_at_pool<'a>(
 /// Looks at the links of a node.
 fn look_at_links<'a>(
     walk: &mut Walk<'a>,
-    node: &Located<'a>,
+    node: &LocatedValue<'a>,
     ids: &Ids<'a>,
 ) -> Result<(), AllocError> {
     walk.enter("ResourceLinkPool")?;
     for (index, link) in node.items_under("ResourceLinkPool").iter().enumerate() {
-        let Some(Located::Text(at, id)) = link.member("rRef") else {
+        let Some(LocatedValue::Text(at, id)) = link.member("rRef") else {
             continue;
         };
         if walk.seeks(Refusal::UnresolvedLink) && !ids.linkable.contains(*id) {
             let what = format!(in walk.alloc;
                 "{} is no resource in the pool of this node or of one above it",
-                Quoted(id)
+                QuotedText(id)
             )?;
             walk.enter_item(index)?;
             walk.enter("rRef")?;
@@ -219,7 +219,7 @@ fn look_at_links<'a>(
 
 /// The place of a resource's group among those of a part's root: its own, copies to change, copies
 /// to read.
-fn group_of(resource: &Located<'_>) -> u8 {
+fn group_of(resource: &LocatedValue<'_>) -> u8 {
     match resource.text_under("SpawnStatus") {
         Some("SpawnedRW") => 1,
         Some("SpawnedRO") => 2,
@@ -231,7 +231,7 @@ fn group_of(resource: &Located<'_>) -> u8 {
 /// change, then copies to read, and each copy shows the part's own spawn.
 fn look_at_groups<'a>(
     walk: &mut Walk<'a>,
-    root: &Located<'a>,
+    root: &LocatedValue<'a>,
     spawn: &str,
 ) -> Result<(), AllocError> {
     let mut group = 0;
@@ -254,17 +254,17 @@ fn look_at_groups<'a>(
 /// Looks at the spawn that a copy in a part of a spawn shows.
 fn look_at_spawn<'a>(
     walk: &mut Walk<'a>,
-    resource: &Located<'a>,
+    resource: &LocatedValue<'a>,
     spawn: &str,
 ) -> Result<(), AllocError> {
     walk.enter("SpawnIDs")?;
     for (index, item) in resource.items_under("SpawnIDs").iter().enumerate() {
-        if let Located::Text(at, id) = item {
+        if let LocatedValue::Text(at, id) = item {
             if *id != spawn && walk.seeks(Refusal::NotProfile) {
                 let what = format!(in walk.alloc;
                     "{} isn't the part's SpawnID {}",
-                    Quoted(id),
-                    Quoted(spawn)
+                    QuotedText(id),
+                    QuotedText(spawn)
                 )?;
                 walk.enter_item(index)?;
                 walk.tell(*at, what.as_str())?;

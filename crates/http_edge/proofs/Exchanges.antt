@@ -4,10 +4,10 @@ use Rattle.std.proofs.lemmas.Bool.{false_from_ne_true, true≢false}
 use Rattle.serde_json.specs.Data.{Data}
 use Rattle.controller.specs.declared.message.Message.{Message}
 use Rattle.ticket_items.specs.declared.refusal.Refusal.{Refusal}
-use Rattle.streams.specs.Streams.{Use}
+use Rattle.streams.specs.Streams.{Traffic}
 use Rattle.streams.specs.declared.refused.Refused.{Refused}
 use Rattle.streams.specs.declared.refused.Refused.TheVariants.{ReadFailed, Stale}
-use Rattle.stored_state.specs.Held.{GivesNothing, Held}
+use Rattle.stored_state.specs.Held.{GivesNothing, KeptState}
 use Rattle.stored_state.specs.Step.{IsSaved, TextStep}
 use Rattle.controller.specs.declared.reply.Reply.{Reply}
 use Rattle.streams.specs.Streams.{Writes, WritesFront}
@@ -20,7 +20,7 @@ use Rattle.http_edge.specs.declared.edge_fault.EdgeFault.TheVariants.{WriteFaile
 use Rattle.http_edge.specs.declared.served.Served.{Served}
 
 -- a step is saved where the keeper holds the state that it leaves
-pub saved : {C K : Type 0} (is_honest : K → Bool) (held : K → List ℕ) (state_text : C → List ℕ) (step : TextStep C) (old new : Held C K) → new.controller ≡ step.next → new.stale ≡ false → is_honest new.keep ≡ is_honest old.keep → (is_honest old.keep ≡ true → held new.keep ≡ state_text new.controller) → IsSaved is_honest held state_text step new
+pub saved : {C K : Type 0} (is_honest : K → Bool) (held : K → List ℕ) (state_text : C → List ℕ) (step : TextStep C) (old new : KeptState C K) → new.controller ≡ step.next → new.stale ≡ false → is_honest new.keep ≡ is_honest old.keep → (is_honest old.keep ≡ true → held new.keep ≡ state_text new.controller) → IsSaved is_honest held state_text step new
 saved is_honest held state_text step old new after fresh honest holds =
     record { after = after; fresh = fresh; holds = λ h. holds (sym honest ∙ h) ∙ ap state_text after }
 
@@ -29,13 +29,13 @@ pub fresh_of : {A : Type 0} (x : A) (stale : Bool) → (stale ≡ true → Ok x 
 fresh_of x stale refuses = false_from_ne_true stale (λ is. let wrong : true ≡ false = ap is_ok (refuses is) in cc)
 
 -- the controller never answers that a read failed
-pub never_unread : {C K : Type 0} (is_honest : K → Bool) (held : K → List ℕ) (count : K → ℕ) (save_fails : K → List ℕ → K → Type 0) (R : Refusal → Type 0) (T : List ℕ → Type 0) (old new : Held C K) (e : Refused)
+pub never_unread : {C K : Type 0} (is_honest : K → Bool) (held : K → List ℕ) (count : K → ℕ) (save_fails : K → List ℕ → K → Type 0) (R : Refusal → Type 0) (T : List ℕ → Type 0) (old new : KeptState C K) (e : Refused)
     → GivesNothing is_honest held count save_fails R T old new e → e ≢ ReadFailed
 never_unread h l n sf R T old new e gives same = subst (λ x. GivesNothing h l n sf R T old new x) same gives
 
 -- ---- how it is served
 
-module _ {C K : Type 0} (is_honest : K → Bool) (held : K → List ℕ) (count : K → ℕ) (save_fails : K → List ℕ → K → Type 0) (state_text : C → List ℕ) (state_read : Data → Result C Refusal) (does : Message → TextStep C) (input : Use) (old new : Held C K) (output : Use) where
+module _ {C K : Type 0} (is_honest : K → Bool) (held : K → List ℕ) (count : K → ℕ) (save_fails : K → List ℕ → K → Type 0) (state_text : C → List ℕ) (state_read : Data → Result C Refusal) (does : Message → TextStep C) (input : Traffic) (old new : KeptState C K) (output : Traffic) where
   -- the step was answered
   pub serves_step : (reply : Result Reply Refusal) (answer : Option (List ℕ)) (r : Result Served EdgeFault)
       → (step : TextStep C) × Steps is_honest held state_text state_read does input.before.bytes old new step × (reply ≡ step.reply) × (answer ≡ step.sent) → IsUnfailed input

@@ -8,7 +8,7 @@ use Rattle.controller.specs.declared.message.Message.{Message}
 use Rattle.controller.specs.declared.reply.Reply.{Reply}
 use Rattle.ticket_items.specs.declared.refusal.Refusal.{Refusal}
 use Rattle.jmf_message.specs.Decoded.{IsRefusalOf as IsUndecoded}
-use Rattle.streams.specs.Streams.{IsUntouched, Use, Writes, WritesFront}
+use Rattle.streams.specs.Streams.{IsUntouched, Traffic, Writes, WritesFront}
 use Rattle.streams.specs.declared.refused.Refused.{Refused}
 use Rattle.streams.specs.declared.refused.Refused.TheVariants.{Core, ReadFailed}
 use Rattle.http_message.specs.Message.{Carries, IsRefusedAs, is_refusal}
@@ -17,7 +17,7 @@ use Rattle.http_message.specs.Status.{done_status, status_of}
 use Rattle.http_message.specs.Texts.{response_text}
 use Rattle.http_message.specs.declared.kind.Kind.TheVariants as kinds
 use Rattle.http_message.specs.declared.methods.Methods.TheVariants.{Post}
-use Rattle.stored_state.specs.Held.{GivesNothing, Held, IsReadAs}
+use Rattle.stored_state.specs.Held.{GivesNothing, IsReadAs, KeptState}
 use Rattle.stored_state.specs.Message.{IsOfMessage}
 use Rattle.stored_state.specs.Step.{IsSaved, IsTaken, TextStep}
 use Rattle.stored_state.specs.declared.taken_bytes.TakenBytes.{TakenBytes}
@@ -32,7 +32,7 @@ HasBody known body = IfSome known (λ input. Carries (kinds.Request Post) input 
 -- the message that the request carries is one step, which is saved, and is read again as it was
 pub record Steps {C K : Type 0} (is_honest : K → Bool) (held : K → List ℕ)
     (state_text : C → List ℕ) (state_read : Data → Result C Refusal)
-    (does : Message → TextStep C) (known : Option (List ℕ)) (old new : Held C K)
+    (does : Message → TextStep C) (known : Option (List ℕ)) (old new : KeptState C K)
     (step : TextStep C) : Type 0 where
   pub body : List ℕ
   pub carried : HasBody known body
@@ -53,7 +53,7 @@ IsNoRequest known e =
 -- carries nothing is given out
 abbrev pub StepsNot : {C K : Type 0} → (K → Bool) → (K → List ℕ) → (K → ℕ)
     → (K → List ℕ → K → Type 0) → (C → List ℕ) → (Message → TextStep C) → Option (List ℕ)
-    → Held C K → Held C K → Refused → Type 0
+    → KeptState C K → KeptState C K → Refused → Type 0
 StepsNot is_honest held count save_fails state_text does known old new e =
     (IsNoRequest known e × (new ≡ old))
     ⊎ ((body : List ℕ) × HasBody known body
@@ -66,7 +66,7 @@ is_unread ReadFailed = true
 is_unread _ = false
 
 -- a read of the request failed, or more were made than may be, which changes nothing
-pub record IsUnread {C K : Type 0} (start : ℕ) (input : Use) (old new : Held C K) (e : Refused)
+pub record IsUnread {C K : Type 0} (start : ℕ) (input : Traffic) (old new : KeptState C K) (e : Refused)
     : Type 0 where
   pub is : e ≡ ReadFailed
   pub failed : HasFailedIn start input
@@ -75,7 +75,7 @@ pub record IsUnread {C K : Type 0} (start : ℕ) (input : Use) (old new : Held C
 -- what comes of a request: a step, or why there is none
 abbrev pub Exchanges : {C K : Type 0} → (K → Bool) → (K → List ℕ) → (K → ℕ)
     → (K → List ℕ → K → Type 0) → (C → List ℕ) → (Data → Result C Refusal)
-    → (Message → TextStep C) → Option (List ℕ) → Held C K → Held C K
+    → (Message → TextStep C) → Option (List ℕ) → KeptState C K → KeptState C K
     → Result (TextStep C) Refused → Type 0
 Exchanges is_honest held count save_fails state_text state_read does known old new (Ok step) =
     Steps is_honest held state_text state_read does known old new step
@@ -85,9 +85,9 @@ Exchanges is_honest held count save_fails state_text state_read does known old n
 -- ---- what it is answered
 
 -- the text of the answer, if there is one, or why there is no step
-abbrev pub answered : {C : Type 0} → Result (TextStep C) Refused → Result (Option (List ℕ)) Refused
-answered (Ok step) = Ok step.sent
-answered (Err e) = Err e
+abbrev pub answer_text : {C : Type 0} → Result (TextStep C) Refused → Result (Option (List ℕ)) Refused
+answer_text (Ok step) = Ok step.sent
+answer_text (Err e) = Err e
 
 -- the refusal of a message by the controller, if it is one
 abbrev pub refusal_in : Result Reply Refusal → Option Refused
@@ -95,48 +95,48 @@ refusal_in (Ok reply) = None
 refusal_in (Err e) = Some (Core e)
 
 -- what is told of a request: the status of its response, and the refusal that was met
-abbrev pub served : {C : Type 0} → Result (TextStep C) Refused → Served
-served (Ok step) = record { status = done_status; refusal = refusal_in step.reply }
-served (Err e) = record { status = status_of e; refusal = Some e }
+abbrev pub served_result : {C : Type 0} → Result (TextStep C) Refused → Served
+served_result (Ok step) = record { status = done_status; refusal = refusal_in step.reply }
+served_result (Err e) = record { status = status_of e; refusal = Some e }
 
 -- the same of a message whose texts were made
 abbrev pub answer_in : Result TakenBytes Refused → Result (Option (List ℕ)) Refused
 answer_in (Ok taken) = Ok (option_map (λ text. text.items) taken.answer)
 answer_in (Err e) = Err e
 
-abbrev pub told_of : Result TakenBytes Refused → Served
-told_of (Ok taken) = record { status = done_status; refusal = refusal_in taken.reply }
-told_of (Err e) = record { status = status_of e; refusal = Some e }
+abbrev pub served_of : Result TakenBytes Refused → Served
+served_of (Ok taken) = record { status = done_status; refusal = refusal_in taken.reply }
+served_of (Err e) = record { status = status_of e; refusal = Some e }
 
 -- ---- how it is served
 
 -- no read failed; the response to what came of the request is written, and this is told of it
 pub record Serves {C K : Type 0} (is_honest : K → Bool) (held : K → List ℕ) (count : K → ℕ)
     (save_fails : K → List ℕ → K → Type 0) (state_text : C → List ℕ)
-    (state_read : Data → Result C Refusal) (does : Message → TextStep C) (input : Use)
-    (old new : Held C K) (output : Use) (told : Served) : Type 0 where
+    (state_read : Data → Result C Refusal) (does : Message → TextStep C) (input : Traffic)
+    (old new : KeptState C K) (output : Traffic) (told : Served) : Type 0 where
   pub came : Result (TextStep C) Refused
   pub exchange :
       Exchanges is_honest held count save_fails state_text state_read does input.before.bytes old
       new came
   pub unfailed : IsUnfailed input
-  pub written : Writes output (response_text (answered came))
-  pub told_of : told ≡ served came
+  pub written : Writes output (response_text (answer_text came))
+  pub told_of : told ≡ served_result came
 
 -- a write of the response failed: what came of the request is as if it had not
 pub record ServesFront {C K : Type 0} (is_honest : K → Bool) (held : K → List ℕ) (count : K → ℕ)
     (save_fails : K → List ℕ → K → Type 0) (state_text : C → List ℕ)
-    (state_read : Data → Result C Refusal) (does : Message → TextStep C) (input : Use)
-    (old new : Held C K) (output : Use) : Type 0 where
+    (state_read : Data → Result C Refusal) (does : Message → TextStep C) (input : Traffic)
+    (old new : KeptState C K) (output : Traffic) : Type 0 where
   pub came : Result (TextStep C) Refused
   pub exchange :
       Exchanges is_honest held count save_fails state_text state_read does input.before.bytes old
       new came
   pub unfailed : IsUnfailed input
-  pub front : WritesFront output (response_text (answered came))
+  pub front : WritesFront output (response_text (answer_text came))
 
 -- a read failed, or more were made than may be: nothing is stepped or written
-pub record ServesNone {C K : Type 0} (start : ℕ) (input output : Use) (old new : Held C K)
+pub record ServesNone {C K : Type 0} (start : ℕ) (input output : Traffic) (old new : KeptState C K)
     : Type 0 where
   pub failed : HasFailedIn start input
   pub unstepped : new ≡ old

@@ -4,9 +4,9 @@ ghost use Rattle.std.specs.Prelude.{◌≡◌, Ok, IfErr, IfOk, OnErr, OnOk};
 ghost use Rattle.std.specs.Option.{option_map};
 ghost use Rattle.http_message.specs.Status.{done_status, status_of as status_for};
 ghost use Rattle.http_message.specs.Texts.{response_text};
-ghost use Rattle.http_edge.specs.Exchange.{answer_in, refusal_in, told_of};
+ghost use Rattle.http_edge.specs.Exchange.{answer_in, refusal_in, served_of};
 ghost use Rattle.http_edge.specs.declared.edge_fault.EdgeFault.TheVariants.{WriteFailed};
-ghost use Rattle.streams.specs.Streams.{used, Writes, WritesFront};
+ghost use Rattle.streams.specs.Streams.{Writes, WritesFront, traffic};
 
 use crate::edge_fault::EdgeFault;
 use crate::served::Served;
@@ -33,9 +33,9 @@ pub(crate) fn answer_step<W: Write>(
 ) -> Result<Served, EdgeFault>
     ensures told { IfOk result (λ told. told
         ≡ record { status = done_status; refusal = refusal_in taken.now.reply }) }
-    ensures ok { OnOk result (Writes (used W.contents writer.old writer.new)
+    ensures ok { OnOk result (Writes (traffic W.contents writer.old writer.new)
         (response_text (Ok (option_map (λ b. b.items) taken.now.answer)))) }
-    ensures front { OnErr result (WritesFront (used W.contents writer.old writer.new)
+    ensures front { OnErr result (WritesFront (traffic W.contents writer.old writer.new)
         (response_text (Ok (option_map (λ b. b.items) taken.now.answer)))) }
     ensures fault { IfErr result (λ fault. fault ≡ WriteFailed) }
 {
@@ -59,9 +59,9 @@ pub(crate) fn answer_refusal<W: Write>(
 ) -> Result<Served, EdgeFault>
     ensures told { IfOk result (λ told. told
         ≡ record { status = status_for refused.now; refusal = Some refused.now }) }
-    ensures ok { OnOk result (Writes (used W.contents writer.old writer.new)
+    ensures ok { OnOk result (Writes (traffic W.contents writer.old writer.new)
         (response_text (Err refused.now))) }
-    ensures front { OnErr result (WritesFront (used W.contents writer.old writer.new)
+    ensures front { OnErr result (WritesFront (traffic W.contents writer.old writer.new)
         (response_text (Err refused.now))) }
     ensures fault { IfErr result (λ fault. fault ≡ WriteFailed) }
 {
@@ -84,10 +84,10 @@ pub fn respond<W: Write>(
     // Proved: The response to what came of a request is written, and what is told of it answered,
     // by itself.
     // By `told`, `ok`, `front`, `fault`.
-    ensures told { IfOk result (λ told. told ≡ told_of came.now) }
-    ensures ok { OnOk result (Writes (used W.contents writer.old writer.new)
+    ensures told { IfOk result (λ told. told ≡ served_of came.now) }
+    ensures ok { OnOk result (Writes (traffic W.contents writer.old writer.new)
         (response_text (answer_in came.now))) }
-    ensures front { OnErr result (WritesFront (used W.contents writer.old writer.new)
+    ensures front { OnErr result (WritesFront (traffic W.contents writer.old writer.new)
         (response_text (answer_in came.now))) }
     ensures fault { IfErr result (λ fault. fault ≡ WriteFailed) }
 {

@@ -45,7 +45,7 @@ impl Write for CutWriter {
             return Err(io::Error::from(kind));
         }
         match bytes {
-            [first, ..] if !self.ended() => {
+            [first, ..] if !self.is_at_end() => {
                 self.taken.push(*first)?;
                 Ok(1)
             }
@@ -60,7 +60,7 @@ impl Write for CutWriter {
 
 impl CutWriter {
     /// Whether it takes nothing more.
-    fn ended(&self) -> bool {
+    fn is_at_end(&self) -> bool {
         matches!(self.cut, Cut::Ends) && self.calls >= self.at
     }
 }

@@ -7,7 +7,7 @@ ghost use Rattle.http_edge.specs.Exchange as exchanges;
 ghost use Rattle.http_edge.specs.Exchange.{Serves, ServesFront, ServesNone};
 ghost use Rattle.http_edge.specs.declared.edge_fault.EdgeFault.TheVariants.{ReadFailed};
 ghost use Rattle.http_edge.specs.declared.edge_fault.EdgeFault.TheVariants.{WriteFailed};
-ghost use Rattle.streams.specs.Streams.{used};
+ghost use Rattle.streams.specs.Streams.{traffic};
 
 use crate::answering::{answer_refusal, answer_step};
 use crate::edge_fault::EdgeFault;
@@ -17,7 +17,7 @@ use http_message::MAX_READS;
 use keepers::Keep;
 use std::alloc::Global;
 use std::io::{Read, Write};
-use stored_state::{Kept, Stored};
+use stored_state::{Kept, StoredController};
 use streams::{Counted, Refused};
 
 /// Whether a read of the request failed.
@@ -39,7 +39,7 @@ fn is_unread(refused: &Refused) -> bool
 /// own.
 ///
 /// It is `read_request`, `Kept::take` and `respond` in a row.
-pub fn serve_one<R: Read, W: Write, C: Stored, K: Keep>(
+pub fn serve_one<R: Read, W: Write, C: StoredController, K: Keep>(
     alloc: Global,
     reader: &mut Counted<R>,
     writer: &mut Counted<W>,
@@ -56,19 +56,19 @@ pub fn serve_one<R: Read, W: Write, C: Stored, K: Keep>(
     ensures ok { IfOk result (Serves K.is_honest K.held K.count K.save_fails
         (λ c. compact_text (C.state_data c)) C.state_read
         (λ m. in_text (C.take_step m at kept.old.controller))
-        (used R.remaining reader.old reader.new) kept.old kept.new
-        (used W.contents writer.old writer.new)) }
+        (traffic R.remaining reader.old reader.new) kept.old kept.new
+        (traffic W.contents writer.old writer.new)) }
     // Proved: Where a read failed or 2,000,000 were made, nothing is stepped or written.
     ensures unread { IsErrOf result ReadFailed → ServesNone reader.old.calls
-        (used R.remaining reader.old reader.new) (used W.contents writer.old writer.new)
+        (traffic R.remaining reader.old reader.new) (traffic W.contents writer.old writer.new)
         kept.old kept.new }
     // Proved: Where a write failed, a front of the response is written, and what came of the
     // request is the same.
     ensures unwritten { IsErrOf result WriteFailed → ServesFront K.is_honest K.held K.count
         K.save_fails (λ c. compact_text (C.state_data c)) C.state_read
         (λ m. in_text (C.take_step m at kept.old.controller))
-        (used R.remaining reader.old reader.new) kept.old kept.new
-        (used W.contents writer.old writer.new) }
+        (traffic R.remaining reader.old reader.new) kept.old kept.new
+        (traffic W.contents writer.old writer.new) }
     // Proved: At most 2,000,000 reads are made.
     ensures bound { reader.new.calls ≤ reader.old.calls + MAX_READS }
 {

@@ -3,14 +3,14 @@ use Rattle.std.proofs.Common.{◌∙◌, ℕ, List, ◌++◌, Option, Some, None
 use Rattle.std.specs.Io.KnownBytes.{Consumes, IsAtEnd}
 use Rattle.std.proofs.KnownBytes.{Consumes-trans}
 use Rattle.streams.specs.Counts.{Counts}
-use Rattle.streams.specs.Streams.{used}
+use Rattle.streams.specs.Streams.{traffic}
 use Rattle.streams.specs.declared.refused.Refused.{Refused}
 use Rattle.http_message.specs.Reading.{HasRead, IsMoreFault}
 
 -- what was read and what was read then
 pub read_then : {T : Type 0} (known : T → Option (List ℕ)) (start : ℕ) (a b c : Counts T) (bytes more : List ℕ)
-    → HasRead start (used known a b) bytes → HasRead start (used known b c) more
-    → HasRead start (used known a c) (bytes ++ more)
+    → HasRead start (traffic known a b) bytes → HasRead start (traffic known b c) more
+    → HasRead start (traffic known a c) (bytes ++ more)
 read_then known start a b c bytes more first then =
     record {
       taken = Consumes-trans _ _ _ _ _ first.taken then.taken;
@@ -21,7 +21,7 @@ read_then known start a b c bytes more first then =
 
 -- a fault of a later read
 pub later_fault : {T : Type 0} (known : T → Option (List ℕ)) (start : ℕ) (a b c : Counts T) (bytes : List ℕ) (e : Refused)
-    → HasRead start (used known a b) bytes → IsMoreFault start (used known b c) e → IsMoreFault start (used known a c) e
+    → HasRead start (traffic known a b) bytes → IsMoreFault start (traffic known b c) e → IsMoreFault start (traffic known a c) e
 later_fault known start a b c bytes e read fault =
     ⊎_elim
     (λ f. inl (

@@ -17,14 +17,14 @@ use Rattle.httparse.specs.Grammar.{Field, print_request, print_response}
 use Rattle.httparse.proofs.GrammarLemmas.{ReadsRequest-append, ReadsResponse-append, request_unique, response_unique}
 use Rattle.httparse.specs.Spans.{IsWithin, IsSectionWithin, IsRequestWithin, IsResponseWithin, IsRequestOf, IsResponseOf, AreFieldsAt, span_bytes, header_bytes, name_and_value}
 use Rattle.http_message.specs.Head.{Head, StartsWith, BeginsWith, HasNoStart, HasNoHead, IsToldOf, request_seen, response_seen}
-use Rattle.http_message.specs.Fields.{Summary, lone, summary, values_of}
+use Rattle.http_message.specs.Fields.{Summary, lone_value, summary, values_of}
 use Rattle.http_message.specs.Message.{HasLone}
-use Rattle.http_message.specs.Methods.{taken}
-use Rattle.http_message.specs.Says.{said}
+use Rattle.http_message.specs.Methods.{method_of}
+use Rattle.http_message.specs.Says.{body_length}
 use Rattle.http_message.specs.declared.method.Method.{Method}
 use Rattle.http_message.specs.declared.methods.Methods.{Methods}
 use Rattle.http_message.specs.Expect.{expects_continue}
-use Rattle.http_message.specs.declared.told.Told.{Told}
+use Rattle.http_message.specs.declared.head_says.HeadFacts.{HeadFacts}
 use Rattle.http_message.specs.declared.start.Start.TheVariants as starts
 use Rattle.http_message.specs.declared.kind.Kind.{Kind}
 use Rattle.http_message.specs.declared.kind.Kind.TheVariants as kinds
@@ -82,7 +82,7 @@ pub whole_response : (most : ℕ) (bytes : List ℕ) (spans : List HeaderSpan) (
     → s ≡ Complete r → length spans ≡ 64
     → IfComplete {E = Error} (Ok s) (IsResponseWithin bytes spans)
     → IfComplete {E = Error} (Ok s) (IsResponseOf bytes spans)
-    → told ≡ said most starts.Response (map (header_bytes bytes) (take r.headers spans))
+    → told ≡ body_length most starts.Response (map (header_bytes bytes) (take r.headers spans))
     → (head : Head) × StartsWith kinds.Response bytes head
     × IsToldOf most bytes head (record { size = r.len; code = r.code; method = None; target = record { start = 0; end = 0 }; says = told; expects_continue = false })
 whole_response most bytes spans s r told is room within complete says =
@@ -90,7 +90,7 @@ whole_response most bytes spans s r told is room within complete says =
     let of = complete_at s r (IsResponseOf bytes spans) is complete in (
       response_seen of.0,
       (of.0, drop r.len bytes, of.1.reads, few_fields bytes spans r.len r.headers of.0.fields room in_bytes.section of.1.fields, refl),
-      record { size = of.1.len; code = of.1.code; method = refl; target = refl; says = says ∙ ap (λ fs. said most starts.Response fs) of.1.fields; expects = refl },
+      record { size = of.1.len; code = of.1.code; method = refl; target = refl; says = says ∙ ap (λ fs. body_length most starts.Response fs) of.1.fields; expects = refl },
     )
 
 pub whole_request : (methods : Methods) (most : ℕ) (bytes : List ℕ) (spans : List HeaderSpan) (s : Status RequestSpans)
@@ -98,15 +98,15 @@ pub whole_request : (methods : Methods) (most : ℕ) (bytes : List ℕ) (spans :
     → s ≡ Complete r → length spans ≡ 64
     → IfComplete {E = Error} (Ok s) (IsRequestWithin bytes spans)
     → IfComplete {E = Error} (Ok s) (IsRequestOf bytes spans)
-    → name ≡ span_bytes bytes r.method → method ≡ taken methods name
-    → told ≡ said most (starts.Request method (r.version == 1)) (map (header_bytes bytes) (take r.headers spans))
+    → name ≡ span_bytes bytes r.method → method ≡ method_of methods name
+    → told ≡ body_length most (starts.Request method (r.version == 1)) (map (header_bytes bytes) (take r.headers spans))
     → expects ≡ expects_continue (starts.Request method (r.version == 1)) (map (header_bytes bytes) (take r.headers spans))
     → (head : Head) × StartsWith (kinds.Request methods) bytes head
     × IsToldOf most bytes head (record { size = r.len; code = 0; method = method; target = r.path; says = told; expects_continue = expects })
 whole_request methods most bytes spans s r name method told expects is room within complete of_name of_method says asks =
     let in_bytes = complete_at s r (IsRequestWithin bytes spans) is within in
     let of = complete_at s r (IsRequestOf bytes spans) is complete in
-    let asked : method ≡ taken methods of.0.method = of_method ∙ ap (taken methods) (of_name ∙ of.1.method) in
+    let asked : method ≡ method_of methods of.0.method = of_method ∙ ap (method_of methods) (of_name ∙ of.1.method) in
     let wants : (r.version == 1) ≡ (of.0.minor == 1) = ap (λ v. v == 1) of.1.version in (
       request_seen methods of.0,
       (of.0, drop r.len bytes, of.1.reads, few_fields bytes spans r.len r.headers of.0.fields room in_bytes.section of.1.fields, refl),
@@ -115,7 +115,7 @@ whole_request methods most bytes spans s r name method told expects is room with
         code = refl;
         method = asked;
         target = of.1.path;
-        says = says ∙ (λ i. said most (starts.Request (asked i) (wants i)) (of.1.fields i));
+        says = says ∙ (λ i. body_length most (starts.Request (asked i) (wants i)) (of.1.fields i));
         expects = asks ∙ (λ i. expects_continue (starts.Request (asked i) (wants i)) (of.1.fields i));
       },
     )
@@ -132,7 +132,7 @@ within_front front behind s within =
     ∙ take-append-le (s.end - s.start) (drop s.start front) behind room
 
 -- what is told of a head in the front is told of it in the whole
-pub told_in_front : (most m : ℕ) (bytes : List ℕ) (head : Head) (told : Told) → IsWithin (length (take m bytes)) told.target
+pub told_in_front : (most m : ℕ) (bytes : List ℕ) (head : Head) (told : HeadFacts) → IsWithin (length (take m bytes)) told.target
     → IsToldOf most (take m bytes) head told → IsToldOf most bytes head told
 told_in_front most m bytes head told within of =
     record {
@@ -204,13 +204,13 @@ pub lone_there : (bytes name : List ℕ) (spans : List HeaderSpan) (s : Status R
     → IfComplete {E = Error} (Ok s) (IsRequestWithin bytes spans)
     → IfComplete {E = Error} (Ok s) (IsRequestOf bytes spans)
     → named ≡ summary (values_of name (map (header_bytes bytes) (take r.headers spans)))
-    → value ≡ lone named → HasLone bytes name value
+    → value ≡ lone_value named → HasLone bytes name value
 lone_there bytes name spans s r named value is room within complete of_named of_value =
     let in_bytes = complete_at s r (IsRequestWithin bytes spans) is within in
     let of = complete_at s r (IsRequestOf bytes spans) is complete in
     record {
-      alone = λ methods head starts. of_value ∙ ap lone of_named
-          ∙ ap (λ fs. lone (summary (values_of name fs)))
+      alone = λ methods head starts. of_value ∙ ap lone_value of_named
+          ∙ ap (λ fs. lone_value (summary (values_of name fs)))
           (of.1.fields ∙ ap (λ h. map name_and_value h.fields) (request_unique bytes of.0 starts.0 (drop r.len bytes) starts.1 of.1.reads starts.2).0
           ∙ ap (λ h. h.fields) (sym starts.4));
       none = λ methods none. absurd (none (request_seen methods of.0)

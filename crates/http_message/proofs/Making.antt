@@ -11,7 +11,7 @@ use Rattle.http_message.specs.Message.{is_refusal}
 use Rattle.http_message.specs.declared.kind.Kind.{Kind}
 use Rattle.http_message.specs.declared.look.Look.{Look}
 use Rattle.http_message.specs.declared.look.Look.TheVariants as looks
-use Rattle.http_message.specs.declared.told.Told.{Told}
+use Rattle.http_message.specs.declared.head_says.HeadFacts.{HeadFacts}
 use Rattle.http_message.proofs.Heads.{begins_more, head_alone}
 use Rattle.http_message.proofs.Said.{is_of_http, said_of_http}
 
@@ -49,7 +49,7 @@ body_length new size n within =
 of_http : (most : ℕ) (h : Head) (e : Refused) → head_says most h ≡ Err e → is_refusal e ≡ true
 of_http most h e says = sym (ap is_of_http says) ∙ said_of_http most h.start h.fields
 
-pub lost_by_head : (most : ℕ) (kind : Kind) (bytes : List ℕ) (told : Told) (e : Refused)
+pub lost_by_head : (most : ℕ) (kind : Kind) (bytes : List ℕ) (told : HeadFacts) (e : Refused)
     → IsHeadOf most kind bytes told → told.says ≡ Err e → IsLost most kind bytes e
 lost_by_head most kind bytes told e has says =
     let said = sym has.told_of.says ∙ says in
@@ -58,7 +58,7 @@ lost_by_head most kind bytes told e has says =
       always = λ more. inr (inl (has.head, begins_more kind bytes more has.head has.begins, said));
     }
 
-pub whole_there : (most : ℕ) (kind : Kind) (bytes : List ℕ) (told : Told) (n : ℕ)
+pub whole_there : (most : ℕ) (kind : Kind) (bytes : List ℕ) (told : HeadFacts) (n : ℕ)
     → IsHeadOf most kind bytes told → told.says ≡ Ok n → told.size + n ≤ length bytes
     → IsWhole most kind bytes (record { status = told.code; method = told.method; target = told.target; start = told.size; end = told.size + n })
 whole_there most kind bytes told n has says within =

@@ -6,7 +6,7 @@ use Rattle.streams.specs.declared.refused.Refused.{Refused}
 use Rattle.streams.specs.declared.refused.Refused.TheVariants.{BadHead, NoLength, TooLarge}
 use Rattle.http_message.specs.Fields.{NamedValue, Summary, absent, once, often, is_once}
 use Rattle.http_message.specs.Message.{is_refusal}
-use Rattle.http_message.specs.Says.{is_number, length_of, length_told, is_bad, is_coded, no_body, said, said_by, said_with, told_by, under}
+use Rattle.http_message.specs.Says.{body_length, is_bad, is_coded, is_number, length_by_method, length_in_fields, length_of, length_of_fields, length_of_head, no_body, under}
 use Rattle.http_message.specs.declared.method.Method.{Method}
 use Rattle.http_message.specs.declared.method.Method.TheVariants as methods
 use Rattle.http_message.specs.declared.start.Start.{Start}
@@ -29,7 +29,7 @@ of_length most text =
     either (is_number text) (if nat_lt most n then Err TooLarge else Ok n) (Err BadHead)
     (either (nat_lt most n) (Err TooLarge) (Ok n) refl refl) refl
 
-of_told : (most : ℕ) (s : Summary) → is_of_http (length_told most s) ≡ true
+of_told : (most : ℕ) (s : Summary) → is_of_http (length_in_fields most s) ≡ true
 of_told most absent = refl
 of_told most (once v) = of_length most v
 of_told most often = refl
@@ -40,23 +40,23 @@ of_none (Err NoLength) ok = refl
 of_none (Err e) ok = ok
 
 of_method : (method : Method) (length : Result ℕ Refused) → is_of_http length ≡ true
-    → is_of_http (told_by method length) ≡ true
+    → is_of_http (length_by_method method length) ≡ true
 of_method methods.Post length ok = ok
 of_method methods.Get length ok = of_none length ok
 of_method methods.Head length ok = of_none length ok
 
 of_taken : (taken : Option Method) (fields : List NamedValue) (length : Result ℕ Refused) → is_of_http length ≡ true
-    → is_of_http (said_by taken fields length) ≡ true
+    → is_of_http (length_of_fields taken fields length) ≡ true
 of_taken None fields length ok = refl
 of_taken (Some method) fields length ok = either (is_coded fields) _ _ refl (of_method method length ok)
 
 of_rest : (start : Start) (fields : List NamedValue) (length : Result ℕ Refused) → is_of_http length ≡ true
-    → is_of_http (said_with start fields length) ≡ true
+    → is_of_http (length_of_head start fields length) ≡ true
 of_rest (starts.Request taken wants_host) fields length ok =
     either (wants_host && not (is_once (under (codes "host") fields))) _ _ refl (of_taken taken fields length ok)
 of_rest starts.Response fields length ok = either (is_coded fields) _ _ refl ok
 
-pub said_of_http : (most : ℕ) (start : Start) (fields : List NamedValue) → is_of_http (said most start fields) ≡ true
+pub said_of_http : (most : ℕ) (start : Start) (fields : List NamedValue) → is_of_http (body_length most start fields) ≡ true
 said_of_http most start fields =
-    let length = length_told most (under (codes "content-length") fields) in
+    let length = length_in_fields most (under (codes "content-length") fields) in
     either (is_bad length) _ _ refl (of_rest start fields length (of_told most (under (codes "content-length") fields)))

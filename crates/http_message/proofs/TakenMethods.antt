@@ -7,8 +7,8 @@ use Rattle.http_message.specs.Fields.{NamedValue, is_once}
 use Rattle.httparse.specs.Spans.{name_and_value}
 use Rattle.http_message.specs.Head.{Head, head_method, head_says, request_seen}
 use Rattle.http_message.specs.Laws.{IsAsked, RequestsAreTaken}
-use Rattle.http_message.specs.Methods.{if_taken, method_named, taken, takes}
-use Rattle.http_message.specs.Says.{is_bad, is_coded, length_told, no_body, said, told_by, under}
+use Rattle.http_message.specs.Methods.{if_taken, method_named, method_of, takes}
+use Rattle.http_message.specs.Says.{body_length, is_bad, is_coded, length_by_method, length_in_fields, no_body, under}
 use Rattle.http_message.specs.declared.kind.Kind.TheVariants as kinds
 use Rattle.http_message.specs.declared.method.Method.{Method}
 use Rattle.http_message.specs.declared.method.Method.TheVariants as asked
@@ -22,9 +22,9 @@ fails : (c : Bool) (a b : Result ℕ Refused) → is_ok a ≡ false → is_ok b 
 fails true a b p q = p
 fails false a b p q = q
 
-none_fails : (most : ℕ) (wants : Bool) (fields : List NamedValue) → is_ok (said most (starts.Request None wants) fields) ≡ false
+none_fails : (most : ℕ) (wants : Bool) (fields : List NamedValue) → is_ok (body_length most (starts.Request None wants) fields) ≡ false
 none_fails most wants fields =
-    fails (is_bad (length_told most (under (codes "content-length") fields))) (Err BadHead)
+    fails (is_bad (length_in_fields most (under (codes "content-length") fields))) (Err BadHead)
     (if wants && not (is_once (under (codes "host") fields)) then Err BadHead else Err NotPost) refl
     (fails (wants && not (is_once (under (codes "host") fields))) (Err BadHead) (Err NotPost) refl refl)
 
@@ -68,18 +68,18 @@ posts asked.Post = true
 posts asked.Get = false
 posts asked.Head = false
 
-told_zero : (method : Method) (length : Result ℕ Refused) → posts method ≡ false → none_or_zero (told_by method length) ≡ true
+told_zero : (method : Method) (length : Result ℕ Refused) → posts method ≡ false → none_or_zero (length_by_method method length) ≡ true
 told_zero asked.Post length is = absurd (search rules)
 told_zero asked.Get length is = no_body_zero length
 told_zero asked.Head length is = no_body_zero length
 
 said_zero : (most : ℕ) (method : Method) (wants : Bool) (fields : List NamedValue) → posts method ≡ false
-    → none_or_zero (said most (starts.Request (Some method) wants) fields) ≡ true
+    → none_or_zero (body_length most (starts.Request (Some method) wants) fields) ≡ true
 said_zero most method wants fields is =
-    let length = length_told most (under (codes "content-length") fields) in
+    let length = length_in_fields most (under (codes "content-length") fields) in
     either (is_bad length) (Err BadHead) _ refl
     (either (wants && not (is_once (under (codes "host") fields))) (Err BadHead) _ refl
-    (either (is_coded fields) (Err Coding) (told_by method length) refl (told_zero method length is)))
+    (either (is_coded fields) (Err Coding) (length_by_method method length) refl (told_zero method length is)))
 
 empty : (body : List ℕ) → (length body == 0) ≡ true → body ≡ []
 empty [] is = refl
@@ -88,7 +88,7 @@ empty (c ∷ body) is = absurd (search rules)
 -- ---- the law
 
 posted_by : (most : ℕ) (by : Method) (wants : Bool) (fields : List NamedValue) (body : List ℕ)
-    → said most (starts.Request (Some by) wants) fields ≡ Ok (length body) → (by ≡ asked.Post → ⊥) → body ≡ []
+    → body_length most (starts.Request (Some by) wants) fields ≡ Ok (length body) → (by ≡ asked.Post → ⊥) → body ≡ []
 posted_by most asked.Post wants fields body says other = absurd (other refl)
 posted_by most asked.Get wants fields body says other =
     empty body (sym (ap none_or_zero says) ∙ said_zero most asked.Get wants fields refl)
@@ -96,8 +96,8 @@ posted_by most asked.Head wants fields body says other =
     empty body (sym (ap none_or_zero says) ∙ said_zero most asked.Head wants fields refl)
 
 asked_by : (most : ℕ) (methods : Methods) (name : List ℕ) (wants : Bool) (fields : List NamedValue) (method found : Option Method)
-    (body : List ℕ) → method ≡ found → found ≡ taken methods name
-    → said most (starts.Request found wants) fields ≡ Ok (length body) → IsAsked methods body method
+    (body : List ℕ) → method ≡ found → found ≡ method_of methods name
+    → body_length most (starts.Request found wants) fields ≡ Ok (length body) → IsAsked methods body method
 asked_by most methods name wants fields method None body is of says =
     let no : true ≡ false = sym (ap is_ok says) ∙ none_fails most wants fields in absurd (search rules)
 asked_by most methods name wants fields method (Some by) body is of says = record {
@@ -113,5 +113,5 @@ requests_are_taken most methods input status body method carries has =
     let request = carries.begins.0 in
     let seen : carries.head ≡ request_seen methods request = carries.begins.4 in
     asked_by most methods request.method (request.minor == 1) (map name_and_value request.fields) method
-    (taken methods request.method) body (has.is ∙ ap head_method same ∙ ap head_method seen) refl
+    (method_of methods request.method) body (has.is ∙ ap head_method same ∙ ap head_method seen) refl
     (sym (ap (head_says most) seen) ∙ carries.says)

@@ -1,14 +1,14 @@
 -- A message that was read whole, and why none was.
 use Rattle.std.proofs.Common.{◌≡◌, ◌∙◌, ℕ, List, ◌++◌, Option, IfSome, sym, subst, inl}
 use Rattle.streams.specs.Counts.{Counts}
-use Rattle.streams.specs.Streams.{used}
+use Rattle.streams.specs.Streams.{traffic}
 use Rattle.streams.specs.declared.refused.Refused.{Refused}
 use Rattle.http_message.specs.Incoming.{IsLost, IsWanted, Says}
 use Rattle.http_message.specs.Message.{CarriesWithin, HasHead, HasMethod, HasTarget, IsRefusedWithin}
 use Rattle.http_message.specs.Reading.{Grows, HasRead, IsUnreadWithin}
 use Rattle.http_message.specs.declared.kind.Kind.{Kind}
 use Rattle.http_message.specs.declared.method.Method.{Method}
-use Rattle.http_message.specs.declared.wanted.Wanted.{Wanted}
+use Rattle.http_message.specs.declared.wanted.Need.{Need}
 use Rattle.http_message.proofs.BytesRead.{all_read, read_then, whatever_follows}
 
 -- the kind and the most, as a message in the making has them
@@ -17,7 +17,7 @@ other_names P most m kind k same_most same_kind p = subst (λ n. P n kind) same_
 
 pub carried : {T : Type 0} (known : T → Option (List ℕ)) (most m : ℕ) (kind k : Kind) (start : ℕ) (a b : Counts T)
     (bytes : List ℕ) (status : ℕ) (method : Option Method) (head target body : List ℕ) → m ≡ most → k ≡ kind
-    → HasRead start (used known a b) bytes → Says m k bytes status method head target body
+    → HasRead start (traffic known a b) bytes → Says m k bytes status method head target body
     → IfSome (known a.inner) (λ all. CarriesWithin most kind all status body)
 carried known most m kind k start a b bytes status method head target body same_most same_kind read says =
     other_names (λ n j. IfSome (known a.inner) (λ all. CarriesWithin n j all status body)) most m kind k same_most same_kind
@@ -25,7 +25,7 @@ carried known most m kind k start a b bytes status method head target body same_
 
 pub targeted : {T : Type 0} (known : T → Option (List ℕ)) (m : ℕ) (kind k : Kind) (start : ℕ) (a b : Counts T)
     (bytes : List ℕ) (status : ℕ) (method : Option Method) (head target body : List ℕ) → k ≡ kind
-    → HasRead start (used known a b) bytes → Says m k bytes status method head target body
+    → HasRead start (traffic known a b) bytes → Says m k bytes status method head target body
     → IfSome (known a.inner) (λ all. HasTarget kind all target)
 targeted known m kind k start a b bytes status method head target body same_kind read says =
     subst (λ j. IfSome (known a.inner) (λ all. HasTarget j all target)) same_kind
@@ -33,7 +33,7 @@ targeted known m kind k start a b bytes status method head target body same_kind
 
 pub headed : {T : Type 0} (known : T → Option (List ℕ)) (m : ℕ) (kind k : Kind) (start : ℕ) (a b : Counts T)
     (bytes : List ℕ) (status : ℕ) (method : Option Method) (head target body : List ℕ) → k ≡ kind
-    → HasRead start (used known a b) bytes → Says m k bytes status method head target body
+    → HasRead start (traffic known a b) bytes → Says m k bytes status method head target body
     → IfSome (known a.inner) (λ all. HasHead kind all head)
 headed known m kind k start a b bytes status method head target body same_kind read says =
     subst (λ j. IfSome (known a.inner) (λ all. HasHead j all head)) same_kind
@@ -41,7 +41,7 @@ headed known m kind k start a b bytes status method head target body same_kind r
 
 pub asked : {T : Type 0} (known : T → Option (List ℕ)) (m : ℕ) (kind k : Kind) (start : ℕ) (a b : Counts T)
     (bytes : List ℕ) (status : ℕ) (method : Option Method) (head target body : List ℕ) → k ≡ kind
-    → HasRead start (used known a b) bytes → Says m k bytes status method head target body
+    → HasRead start (traffic known a b) bytes → Says m k bytes status method head target body
     → IfSome (known a.inner) (λ all. HasMethod kind all method)
 asked known m kind k start a b bytes status method head target body same_kind read says =
     subst (λ j. IfSome (known a.inner) (λ all. HasMethod j all method)) same_kind
@@ -49,21 +49,21 @@ asked known m kind k start a b bytes status method head target body same_kind re
 
 -- what was read is refused, whatever follows
 pub lost : {T : Type 0} (known : T → Option (List ℕ)) (most m : ℕ) (kind k : Kind) (start : ℕ) (a b : Counts T)
-    (bytes : List ℕ) (e : Refused) → m ≡ most → k ≡ kind → HasRead start (used known a b) bytes → IsLost m k bytes e
-    → IsUnreadWithin most kind start (used known a b) e
+    (bytes : List ℕ) (e : Refused) → m ≡ most → k ≡ kind → HasRead start (traffic known a b) bytes → IsLost m k bytes e
+    → IsUnreadWithin most kind start (traffic known a b) e
 lost known most m kind k start a b bytes e same_most same_kind read is =
-    other_names (λ n j. IsUnreadWithin n j start (used known a b) e) most m kind k same_most same_kind
+    other_names (λ n j. IsUnreadWithin n j start (traffic known a b) e) most m kind k same_most same_kind
     (inl (is.refusal, read.unfailed, whatever_follows _ _ bytes read.taken (λ all. IsRefusedWithin m k all e) is.always))
 
 -- what was read is refused, since nothing follows
 pub ended : {T : Type 0} (known : T → Option (List ℕ)) (most m : ℕ) (kind k : Kind) (start : ℕ) (a b c : Counts T)
-    (bytes new : List ℕ) (count : ℕ) (w : Wanted) → m ≡ most → k ≡ kind
-    → HasRead start (used known a b) bytes → IsWanted m k bytes w
-    → Grows start (used known b c) bytes new count → count ≡ 0 → IsUnreadWithin most kind start (used known a c) w.refused
+    (bytes new : List ℕ) (count : ℕ) (w : Need) → m ≡ most → k ≡ kind
+    → HasRead start (traffic known a b) bytes → IsWanted m k bytes w
+    → Grows start (traffic known b c) bytes new count → count ≡ 0 → IsUnreadWithin most kind start (traffic known a c) w.refused
 ended known most m kind k start a b c bytes new count w same_most same_kind read wanted grows zero =
     let end = grows.ended zero in
     let whole = read_then known start a b c bytes grows.gained.more read grows.gained.read in
-    other_names (λ n j. IsUnreadWithin n j start (used known a c) w.refused) most m kind k same_most same_kind
+    other_names (λ n j. IsUnreadWithin n j start (traffic known a c) w.refused) most m kind k same_most same_kind
     (inl (
       wanted.refusal,
       whole.unfailed,

@@ -7,8 +7,8 @@ use Rattle.std.proofs.lemmas.Grind.{flat_map-append}
 use Rattle.std.specs.Io.KnownBytes.{Appends}
 use Rattle.std.proofs.KnownBytes.{Appends-trans}
 use Rattle.streams.specs.Counts.{Counts}
-use Rattle.streams.specs.Streams.{used, Writes, WritesFront}
-use Rattle.http_message.specs.Pieces.{joined}
+use Rattle.streams.specs.Streams.{Writes, WritesFront, traffic}
+use Rattle.http_message.specs.Pieces.{bytes_of_pieces}
 
 take_behind : (written text rest : List ℕ) (n : ℕ) → n < length text
     → written ++ take n text ≡ take (length written + n) (written ++ (text ++ rest))
@@ -19,8 +19,8 @@ take_behind written text rest n short =
 -- a front of what is written behind what was written is a front of the whole
 pub front_behind : {T : Type 0} (known : T → Option (List ℕ)) (a b c : Counts T)
     (written text rest whole : List ℕ) → whole ≡ written ++ (text ++ rest)
-    → Writes (used known a b) written → WritesFront (used known b c) text
-    → WritesFront (used known a c) whole
+    → Writes (traffic known a b) written → WritesFront (traffic known b c) text
+    → WritesFront (traffic known a c) whole
 front_behind known a b c written text rest whole is before front =
     let behind = take_behind written text rest front.count front.short in
     let same = behind ∙ ap (take (length written + front.count)) (sym is) in
@@ -32,9 +32,9 @@ front_behind known a b c written text rest whole is before front =
     }
 
 -- the pieces before one, the piece, and those behind it
-pub joined-at : (pieces : List (Bor (List ℕ))) (i : ℕ) (none : Bor (List ℕ)) → i < length pieces
-    → joined pieces ≡ joined (take i pieces) ++ ((get_or pieces i none).now ++ joined (drop (suc i) pieces))
-joined-at pieces i none inside =
-    ap joined (sym (take-append-drop i pieces))
+pub bytes_of_pieces-at : (pieces : List (Bor (List ℕ))) (i : ℕ) (none : Bor (List ℕ)) → i < length pieces
+    → bytes_of_pieces pieces ≡ bytes_of_pieces (take i pieces) ++ ((get_or pieces i none).now ++ bytes_of_pieces (drop (suc i) pieces))
+bytes_of_pieces-at pieces i none inside =
+    ap bytes_of_pieces (sym (take-append-drop i pieces))
     ∙ flat_map-append (λ piece. piece.now) (take i pieces) (drop i pieces)
-    ∙ ap (λ l. joined (take i pieces) ++ joined l) (drop-cons pieces i none inside)
+    ∙ ap (λ l. bytes_of_pieces (take i pieces) ++ bytes_of_pieces l) (drop-cons pieces i none inside)

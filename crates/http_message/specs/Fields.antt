@@ -41,10 +41,10 @@ is_absent (once v) = false
 is_absent often = false
 
 -- the value that stands alone, if one does
-abbrev pub lone : Summary → Option (List ℕ)
-lone absent = None
-lone (once v) = Some v
-lone often = None
+abbrev pub lone_value : Summary → Option (List ℕ)
+lone_value absent = None
+lone_value (once v) = Some v
+lone_value often = None
 
 -- the values and one more
 abbrev pub more : Summary → List ℕ → Summary

@@ -7,8 +7,8 @@ use Rattle.httparse.specs.Grammar.{ResponseHead, ReadsResponse, print_response, 
 use Rattle.httparse.specs.Spans.{IsWithin, name_and_value, span_bytes}
 use Rattle.http_message.specs.Expect.{expects_continue}
 use Rattle.http_message.specs.Fields.{NamedValue}
-use Rattle.http_message.specs.Methods.{taken}
-use Rattle.http_message.specs.Says.{said}
+use Rattle.http_message.specs.Methods.{method_of}
+use Rattle.http_message.specs.Says.{body_length}
 use Rattle.http_message.specs.declared.kind.Kind.{Kind}
 use Rattle.http_message.specs.declared.kind.Kind.TheVariants as kinds
 use Rattle.http_message.specs.declared.look.Look.{Look}
@@ -18,7 +18,7 @@ use Rattle.http_message.specs.declared.method.Method.{Method}
 use Rattle.http_message.specs.declared.methods.Methods.{Methods}
 use Rattle.http_message.specs.declared.start.Start.{Start}
 use Rattle.http_message.specs.declared.start.Start.TheVariants as starts
-use Rattle.http_message.specs.declared.told.Told.{Told}
+use Rattle.http_message.specs.declared.head_says.HeadFacts.{HeadFacts}
 
 -- a head: what its first line tells, the status of a response, the target of a request, its fields,
 -- and its length
@@ -33,7 +33,7 @@ pub record Head : Type 0 where
 abbrev pub request_seen : Methods → RequestHead → Head
 request_seen methods h =
     record {
-      start = starts.Request (taken methods h.method) (h.minor == 1);
+      start = starts.Request (method_of methods h.method) (h.minor == 1);
       code = 0;
       target = h.target;
       fields = map name_and_value h.fields;
@@ -73,11 +73,11 @@ HasNoHead kind input = (head : Head) → ¬ (BeginsWith kind input head)
 
 -- the length of the body, of so many bytes at most, or the first refusal
 abbrev pub head_says : ℕ → Head → Result ℕ Refused
-head_says most head = said most head.start head.fields
+head_says most head = body_length most head.start head.fields
 
 -- the method of a request, if it is taken, and none of a response
 abbrev pub start_method : Start → Option Method
-start_method (starts.Request taken wants_host) = taken
+start_method (starts.Request method_of wants_host) = method_of
 start_method starts.Response = None
 
 abbrev pub head_method : Head → Option Method
@@ -88,7 +88,7 @@ abbrev pub head_expects : Head → Bool
 head_expects head = expects_continue head.start head.fields
 
 -- what is told of a head in these bytes is what the head is
-pub record IsToldOf (most : ℕ) (bytes : List ℕ) (head : Head) (told : Told) : Type 0 where
+pub record IsToldOf (most : ℕ) (bytes : List ℕ) (head : Head) (told : HeadFacts) : Type 0 where
   pub size : told.size ≡ head.size
   pub code : told.code ≡ head.code
   pub method : told.method ≡ head_method head
@@ -97,13 +97,13 @@ pub record IsToldOf (most : ℕ) (bytes : List ℕ) (head : Head) (told : Told) 
   pub expects : told.expects_continue ≡ head_expects head
 
 -- the head and the target lie within the bytes, and the body within the limit
-pub record IsBounded (most len : ℕ) (told : Told) : Type 0 where
+pub record IsBounded (most len : ℕ) (told : HeadFacts) : Type 0 where
   pub size : told.size ≤ len
   pub target : IsWithin len told.target
   pub body : IfOk told.says (λ n. n ≤ most)
 
 -- P of what is told, where there is a head
-abbrev pub IfHead : Look → (Told → Type 0) → Type 0
+abbrev pub IfHead : Look → (HeadFacts → Type 0) → Type 0
 IfHead (looks.Head told) P = P told
 IfHead looks.Part P = ⊤
 IfHead looks.Never P = ⊤

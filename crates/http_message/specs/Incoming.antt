@@ -25,13 +25,13 @@ use Rattle.http_message.specs.declared.looking.TheConstants.{MAX_HEAD_BYTES}
 use Rattle.http_message.specs.declared.method.Method.{Method}
 use Rattle.http_message.specs.declared.standing.Standing.{Standing}
 use Rattle.http_message.specs.declared.standing.Standing.TheVariants as standings
-use Rattle.http_message.specs.declared.told.Told.{Told}
-use Rattle.http_message.specs.declared.wanted.Wanted.{Wanted}
-use Rattle.http_message.specs.declared.whole.Whole.{Whole}
+use Rattle.http_message.specs.declared.head_says.HeadFacts.{HeadFacts}
+use Rattle.http_message.specs.declared.wanted.Need.{Need}
+use Rattle.http_message.specs.declared.whole.WholeMessage.{WholeMessage}
 
 -- the kind of the message, the most bytes that its body may have, what of the input has come, and
 -- how often a head was looked for in it
-pub record Came : Type 0 where
+pub record IncomingView : Type 0 where
   pub kind : Kind
   pub most : ℕ
   pub bytes : List ℕ
@@ -51,14 +51,14 @@ Always bytes P = (more : List ℕ) → P (bytes ++ more)
 -- ---- where it stands
 
 -- there is no head yet, and one may have so many bytes more
-pub record WantsHead (kind : Kind) (bytes : List ℕ) (w : Wanted) : Type 0 where
+pub record WantsHead (kind : Kind) (bytes : List ℕ) (w : Need) : Type 0 where
   pub none : HasNoHead kind bytes
   pub room : length bytes + w.room ≡ MAX_HEAD_BYTES
   pub quiet : w.expects_continue ≡ false
 
 -- there is a head, so many bytes are missing of the body that it tells of, and the interim response
 -- is asked for or not
-pub record WantsBody (most : ℕ) (kind : Kind) (bytes : List ℕ) (w : Wanted) : Type 0 where
+pub record WantsBody (most : ℕ) (kind : Kind) (bytes : List ℕ) (w : Need) : Type 0 where
   pub head : Head
   pub begins : BeginsWith kind bytes head
   pub body : ℕ
@@ -67,7 +67,7 @@ pub record WantsBody (most : ℕ) (kind : Kind) (bytes : List ℕ) (w : Wanted) 
   pub expects : w.expects_continue ≡ head_expects head
 
 -- more is wanted: were the input to end here, it would be refused as this
-pub record IsWanted (most : ℕ) (kind : Kind) (bytes : List ℕ) (w : Wanted) : Type 0 where
+pub record IsWanted (most : ℕ) (kind : Kind) (bytes : List ℕ) (w : Need) : Type 0 where
   pub refusal : is_refusal w.refused ≡ true
   pub ended : IsRefusedWithin most kind bytes w.refused
   pub some : 0 < w.room
@@ -89,7 +89,7 @@ pub record Says
   pub targeted : Always bytes (λ all. HasTarget kind all target)
 
 -- the input carries the message whose parts stand there
-pub record IsWhole (most : ℕ) (kind : Kind) (bytes : List ℕ) (w : Whole) : Type 0 where
+pub record IsWhole (most : ℕ) (kind : Kind) (bytes : List ℕ) (w : WholeMessage) : Type 0 where
   pub target : IsWithin (length bytes) w.target
   pub ordered : w.start ≤ w.end
   pub within : w.end ≤ length bytes
@@ -104,7 +104,7 @@ Stands most kind bytes (standings.Whole w) = IsWhole most kind bytes w
 -- ---- what is kept
 
 -- the bytes begin with a head, of which this is told
-pub record IsHeadOf (most : ℕ) (kind : Kind) (bytes : List ℕ) (told : Told) : Type 0 where
+pub record IsHeadOf (most : ℕ) (kind : Kind) (bytes : List ℕ) (told : HeadFacts) : Type 0 where
   pub head : Head
   pub begins : BeginsWith kind bytes head
   pub told_of : IsToldOf most bytes head told
@@ -171,7 +171,7 @@ pub record IsRead {T : Type 0} (old new : Counts T) (arrival : Arrival) : Type 0
   pub gave : arrival ≡ arrival_of answer
 
 -- so many bytes at most were read behind those that came before, and one at least
-pub record Gained (room : ℕ) (before after : Option (List ℕ)) (old new : Came) : Type 0 where
+pub record Gained (room : ℕ) (before after : Option (List ℕ)) (old new : IncomingView) : Type 0 where
   pub more : List ℕ
   pub grown : new.bytes ≡ old.bytes ++ more
   pub kind : new.kind ≡ old.kind
@@ -181,7 +181,7 @@ pub record Gained (room : ℕ) (before after : Option (List ℕ)) (old new : Cam
   pub few : length more ≤ room
 
 -- what came: some bytes, or none; the end is one where none is left
-abbrev pub Arrives : ℕ → Option (List ℕ) → Option (List ℕ) → Came → Came → Arrival → Type 0
+abbrev pub Arrives : ℕ → Option (List ℕ) → Option (List ℕ) → IncomingView → IncomingView → Arrival → Type 0
 Arrives room before after old new arrivals.Came = Gained room before after old new
 Arrives room before after old new arrivals.Again = (new ≡ old) × Consumes before after []
 Arrives room before after old new arrivals.NotYet = (new ≡ old) × Consumes before after []

@@ -4,7 +4,7 @@ use Rattle.std.specs.Prelude.{Ok, Err, Option, None, take}
 use Rattle.streams.specs.declared.refused.Refused.{Refused}
 use Rattle.streams.specs.declared.refused.Refused.TheVariants.{BadHead, NotPost, NoLength}
 use Rattle.streams.specs.declared.refused.Refused.TheVariants.{TooLarge, CutShort, Coding}
-use Rattle.http_message.specs.Fields.{lone}
+use Rattle.http_message.specs.Fields.{lone_value}
 use Rattle.http_message.specs.Head.{Head, BeginsWith, HasNoHead, HasNoStart, StartsWith}
 use Rattle.http_message.specs.Head.{head_method, head_says}
 use Rattle.http_message.specs.Says.{under}
@@ -52,7 +52,7 @@ pub record HasHead (kind : Kind) (input bytes : List ℕ) : Type 0 where
 -- methods are taken; none where there is no such field or more than one, or no such head
 pub record HasLone (bytes name : List ℕ) (value : Option (List ℕ)) : Type 0 where
   pub alone : (methods : Methods) (head : Head) → StartsWith (kinds.Request methods) bytes head
-      → value ≡ lone (under name head.fields)
+      → value ≡ lone_value (under name head.fields)
   pub none : (methods : Methods) → HasNoStart (kinds.Request methods) bytes → value ≡ None
 
 -- the input ends before its body does

@@ -34,17 +34,17 @@ if_taken methods None = None
 if_taken methods (Some method) = if takes methods method then Some method else None
 
 -- the method of a name, if the listener takes it
-abbrev pub taken : Methods → List ℕ → Option Method
-taken methods name = if_taken methods (method_named name)
+abbrev pub method_of : Methods → List ℕ → Option Method
+method_of methods name = if_taken methods (method_named name)
 
 -- names, as RFC 9110 lists them
-abbrev pub listed : List (List ℕ) → List ℕ
-listed [] = []
-listed (name ∷ []) = name
-listed (name ∷ other ∷ more) = name ++ codes ", " ++ listed (other ∷ more)
+abbrev pub method_list : List (List ℕ) → List ℕ
+method_list [] = []
+method_list (name ∷ []) = name
+method_list (name ∷ other ∷ more) = name ++ codes ", " ++ method_list (other ∷ more)
 
 -- the line that names the methods that a listener takes
 abbrev pub allow_line : Methods → List ℕ
 allow_line methods =
-    codes "Allow: " ++ listed (map name_of (filter (takes methods) (Post ∷ Get ∷ Head ∷ [])))
+    codes "Allow: " ++ method_list (map name_of (filter (takes methods) (Post ∷ Get ∷ Head ∷ [])))
     ++ codes "\r\n"

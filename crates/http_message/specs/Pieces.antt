@@ -3,5 +3,5 @@ use Rattle.std.specs.Prelude.{ℕ, List, flat_map}
 use Rattle.std.specs.Borrow.{Bor}
 
 -- the pieces one after the other
-abbrev pub joined : List (Bor (List ℕ)) → List ℕ
-joined pieces = flat_map (λ piece. piece.now) pieces
+abbrev pub bytes_of_pieces : List (Bor (List ℕ)) → List ℕ
+bytes_of_pieces pieces = flat_map (λ piece. piece.now) pieces

@@ -26,10 +26,10 @@ length_of most text =
     else Ok (digits_value 10 text)) else Err BadHead
 
 -- what the values of Content-Length tell
-abbrev pub length_told : ℕ → Summary → Result ℕ Refused
-length_told most absent = Err NoLength
-length_told most (once v) = length_of most v
-length_told most often = Err BadHead
+abbrev pub length_in_fields : ℕ → Summary → Result ℕ Refused
+length_in_fields most absent = Err NoLength
+length_in_fields most (once v) = length_of most v
+length_in_fields most often = Err BadHead
 
 -- a length that is none
 abbrev pub is_bad : Result ℕ Refused → Bool
@@ -47,8 +47,8 @@ is_coded fields =
     || not (is_absent (under (codes "content-encoding") fields))
 
 -- the length, or that the body is coded
-abbrev pub uncoded : List NamedValue → Result ℕ Refused → Result ℕ Refused
-uncoded fields length = if is_coded fields then Err Coding else length
+abbrev pub uncoded_length : List NamedValue → Result ℕ Refused → Result ℕ Refused
+uncoded_length fields length = if is_coded fields then Err Coding else length
 
 -- the length of a body that isn't there: it needn't be told (RFC 9112, 6.3), and may be told as 0
 abbrev pub no_body : Result ℕ Refused → Result ℕ Refused
@@ -58,25 +58,25 @@ no_body (Err e) = Err e
 
 -- the length of the body of a request by this method: one by GET or HEAD has none, since nothing is
 -- meant by it (RFC 9110, 9.3.1, 9.3.2)
-abbrev pub told_by : Method → Result ℕ Refused → Result ℕ Refused
-told_by Post length = length
-told_by Get length = no_body length
-told_by Head length = no_body length
+abbrev pub length_by_method : Method → Result ℕ Refused → Result ℕ Refused
+length_by_method Post length = length
+length_by_method Get length = no_body length
+length_by_method Head length = no_body length
 
 -- what a method and the fields say, where this is told of the length
-abbrev pub said_by : Option Method → List NamedValue → Result ℕ Refused → Result ℕ Refused
-said_by (Some method) fields length = uncoded fields (told_by method length)
-said_by None fields length = Err NotPost
+abbrev pub length_of_fields : Option Method → List NamedValue → Result ℕ Refused → Result ℕ Refused
+length_of_fields (Some method) fields length = uncoded_length fields (length_by_method method length)
+length_of_fields None fields length = Err NotPost
 
 -- what a first line and the fields say, where this is told of the length
-abbrev pub said_with : Start → List NamedValue → Result ℕ Refused → Result ℕ Refused
-said_with (starts.Request taken wants_host) fields length =
+abbrev pub length_of_head : Start → List NamedValue → Result ℕ Refused → Result ℕ Refused
+length_of_head (starts.Request taken wants_host) fields length =
     if wants_host && not (is_once (under (codes "host") fields)) then Err BadHead
-    else said_by taken fields length
-said_with starts.Response fields length = uncoded fields length
+    else length_of_fields taken fields length
+length_of_head starts.Response fields length = uncoded_length fields length
 
 -- the length of the body, of so many bytes at most, or the first refusal
-abbrev pub said : ℕ → Start → List NamedValue → Result ℕ Refused
-said most start fields =
-    let length = length_told most (under (codes "content-length") fields) in
-    if is_bad length then Err BadHead else said_with start fields length
+abbrev pub body_length : ℕ → Start → List NamedValue → Result ℕ Refused
+body_length most start fields =
+    let length = length_in_fields most (under (codes "content-length") fields) in
+    if is_bad length then Err BadHead else length_of_head start fields length

@@ -120,10 +120,10 @@ served_text (Err e) = told_text listeners.Post e
 
 -- how much of a body a request by this method is answered with: with none, where it asks for the
 -- head alone (RFC 9110, 9.3.2)
-abbrev pub sent_to : Method → List ℕ → List ℕ
-sent_to asked.Post body = body
-sent_to asked.Get body = body
-sent_to asked.Head body = []
+abbrev pub body_part_for : Method → List ℕ → List ℕ
+body_part_for asked.Post body = body
+body_part_for asked.Get body = body
+body_part_for asked.Head body = []
 
 -- the lines of a page: what its body is, that it is neither stored nor taken for anything else, and
 -- that it loads nothing, runs nothing, sends nothing and stands in no other page; and these
@@ -139,7 +139,7 @@ page_lines kind lines =
 -- a page of this status: the response to a request by this method
 abbrev pub page_text : Method → ℕ → List ℕ → List ℕ → List ℕ → List ℕ
 page_text method status kind lines body =
-    sent_text status (page_lines kind lines) body (sent_to method body)
+    sent_text status (page_lines kind lines) body (body_part_for method body)
 
 -- what was answered, with the body itself for the reference to it
 abbrev pub answer_of : Result (Option (Bor (List ℕ))) Refused → Result (Option (List ℕ)) Refused

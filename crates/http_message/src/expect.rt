@@ -5,16 +5,16 @@ ghost use Rattle.httparse.specs.Spans.{IsHeaderWithin, header_bytes};
 ghost use Rattle.http_message.specs.Expect as rules;
 ghost use Rattle.http_message.specs.Seen.{named_seen};
 
-use crate::field::{Named, find_named};
+use crate::field::{ValuesOfName, find_named};
 use crate::start::Start;
 use httparse::spans::HeaderSpan;
 
-fn is_continue(values: Named) -> bool
+fn is_continue(values: ValuesOfName) -> bool
     ensures { result ≡ rules.is_continue (named_seen values.entry) }
 {
     match values {
-        Named::Once(value) => value.eq_ignore_ascii_case(b"100-continue"),
-        Named::Absent | Named::Often => false,
+        ValuesOfName::Once(value) => value.eq_ignore_ascii_case(b"100-continue"),
+        ValuesOfName::Absent | ValuesOfName::Often => false,
     }
 }
 

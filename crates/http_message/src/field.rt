@@ -9,14 +9,19 @@ use httparse::spans::HeaderSpan;
 
 /// The values under one name.
 #[derive(Clone, Copy)]
-pub(crate) enum Named<'a> {
+pub(crate) enum ValuesOfName<'a> {
     Absent,
     Once(&'a [u8]),
     Often,
 }
 
 // What one more field makes of the values under the name so far.
-fn with_field<'a>(found: Named<'a>, name: &[u8], bytes: &'a [u8], field: HeaderSpan) -> Named<'a>
+fn with_field<'a>(
+    found: ValuesOfName<'a>,
+    name: &[u8],
+    bytes: &'a [u8],
+    field: HeaderSpan,
+) -> ValuesOfName<'a>
     requires { IsHeaderWithin (length bytes.now) field }
     ensures { named_seen result ≡ with_value (named_seen found.entry) name.now
         (header_bytes bytes.now field) }
@@ -25,18 +30,22 @@ fn with_field<'a>(found: Named<'a>, name: &[u8], bytes: &'a [u8], field: HeaderS
         return found;
     }
     match found {
-        Named::Absent => Named::Once(field.value.of(bytes)),
-        Named::Once(_) | Named::Often => Named::Often,
+        ValuesOfName::Absent => ValuesOfName::Once(field.value.of(bytes)),
+        ValuesOfName::Once(_) | ValuesOfName::Often => ValuesOfName::Often,
     }
 }
 
 /// The values under the name.
-pub(crate) fn find_named<'a>(name: &[u8], bytes: &'a [u8], fields: &[HeaderSpan]) -> Named<'a>
+pub(crate) fn find_named<'a>(
+    name: &[u8],
+    bytes: &'a [u8],
+    fields: &[HeaderSpan],
+) -> ValuesOfName<'a>
     requires { All (IsHeaderWithin (length bytes.now)) fields.now }
     ensures { named_seen result ≡ summary (values_of name.now
         (map (header_bytes bytes.now) fields.now)) }
 {
-    let mut found = Named::Absent;
+    let mut found = ValuesOfName::Absent;
     for field in fields {
         found = with_field(found, name, bytes, *field);
     }

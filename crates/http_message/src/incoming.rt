@@ -8,14 +8,14 @@ ghost use Rattle.http_message.specs.declared.look.Look.TheVariants as looks;
 
 use crate::arrival::Arrival;
 use crate::body::Body;
+use crate::head_says::HeadFacts;
 use crate::kind::Kind;
 use crate::look::Look;
 use crate::looking::{MAX_HEAD_BYTES, look_for_head};
 use crate::received::Received;
 use crate::standing::Standing;
-use crate::told::Told;
-use crate::wanted::Wanted;
-use crate::whole::Whole;
+use crate::wanted::Need;
+use crate::whole::WholeMessage;
 use std::alloc::{AllocError, Global};
 use std::io::{ErrorKind, Read};
 use std::marker::Model;
@@ -33,9 +33,9 @@ pub struct Incoming {
 }
 
 impl Model for Incoming {
-    ghost use Rattle.http_message.specs.Incoming.{Came, IsComing};
+    ghost use Rattle.http_message.specs.Incoming.{IncomingView, IsComing};
 
-    ghost Value = { Came };
+    ghost Value = { IncomingView };
 
     ghost view = { λ a. record {
       kind = a.kind;
@@ -80,7 +80,7 @@ fn found_in(kind: Kind, bytes: &[u8], most: u32) -> Look
 }
 
 /// How far a message is whose head is there.
-fn standing_behind(kind: Kind, bytes: &[u8], told: &Told, most: u32) -> Standing
+fn standing_behind(kind: Kind, bytes: &[u8], told: &HeadFacts, most: u32) -> Standing
     requires { IsFound most kind bytes.now (looks.Head told.now) }
     ensures { Stands most kind bytes.now result }
 {
@@ -90,13 +90,13 @@ fn standing_behind(kind: Kind, bytes: &[u8], told: &Told, most: u32) -> Standing
     };
     let end = told.size + length;
     if bytes.len() < end {
-        return Standing::Wanted(Wanted {
+        return Standing::Wanted(Need {
             refused: Refused::CutShort,
             room: end - bytes.len(),
             expects_continue: told.expects_continue,
         });
     }
-    Standing::Whole(Whole {
+    Standing::Whole(WholeMessage {
         status: told.code,
         method: told.method,
         target: told.target,
@@ -110,7 +110,7 @@ fn standing_before(kind: Kind, bytes: &[u8], most: u32) -> Standing
     requires { IsFound most kind bytes.now looks.Part }
     ensures { Stands most kind bytes.now result }
 {
-    Standing::Wanted(Wanted {
+    Standing::Wanted(Need {
         refused: Refused::BadHead,
         room: MAX_HEAD_BYTES - bytes.len(),
         expects_continue: false,
@@ -227,7 +227,7 @@ impl Incoming {
     }
 
     /// The message itself, which is whole.
-    pub fn into_received(self, alloc: Global, whole: Whole) -> Result<Received, AllocError>
+    pub fn into_received(self, alloc: Global, whole: WholeMessage) -> Result<Received, AllocError>
         // Wants: a message that `look` told to be whole.
         requires { IsWhole self.most self.kind self.bytes whole }
         // Proved: What a message in the making says, once it is whole, is its head, method,

@@ -7,7 +7,7 @@ ghost use Rattle.std.specs.Str.Parse.{digits_value};
 ghost use Rattle.http_message.specs.Says as rules;
 ghost use Rattle.http_message.specs.Seen.{named_seen};
 
-use crate::field::Named;
+use crate::field::ValuesOfName;
 use streams::Refused;
 
 /// How many bytes a body has at most, where nothing else is said.
@@ -57,13 +57,13 @@ fn length_of(text: &[u8], most: u32) -> Result<usize, Refused>
 }
 
 /// What the values of `Content-Length` tell.
-pub(crate) fn length_told(values: Named, most: u32) -> Result<usize, Refused>
-    ensures value { result ≡ rules.length_told most (named_seen values.entry) }
+pub(crate) fn length_told(values: ValuesOfName, most: u32) -> Result<usize, Refused>
+    ensures value { result ≡ rules.length_in_fields most (named_seen values.entry) }
     ensures bound { IfOk result (λ n. n ≤ most) }
 {
     match values {
-        Named::Absent => Err(Refused::NoLength),
-        Named::Once(value) => length_of(value, most),
-        Named::Often => Err(Refused::BadHead),
+        ValuesOfName::Absent => Err(Refused::NoLength),
+        ValuesOfName::Once(value) => length_of(value, most),
+        ValuesOfName::Often => Err(Refused::BadHead),
     }
 }

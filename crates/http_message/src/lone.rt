@@ -1,22 +1,22 @@
 //! A field that stands once in a head.
 
 ghost use Rattle.std.specs.Prelude.{◌≡◌, option_map};
-ghost use Rattle.http_message.specs.Fields.{lone};
+ghost use Rattle.http_message.specs.Fields.{lone_value};
 ghost use Rattle.http_message.specs.Message.{HasLone};
 ghost use Rattle.http_message.specs.Seen.{named_seen};
 
-use crate::field::{Named, find_named};
+use crate::field::{ValuesOfName, find_named};
 use crate::looking::MAX_FIELDS;
 use httparse::Status;
 use httparse::spans::{EMPTY_HEADER_SPAN, parse_request};
 
 /// The value that stands alone, if one does.
-fn lone_value(found: Named<'_>) -> Option<&[u8]>
-    ensures { option_map (λ value. value.now) result ≡ lone (named_seen found.entry) }
+fn lone_value(found: ValuesOfName<'_>) -> Option<&[u8]>
+    ensures { option_map (λ value. value.now) result ≡ lone_value (named_seen found.entry) }
 {
     match found {
-        Named::Once(value) => Some(value),
-        Named::Absent | Named::Often => None,
+        ValuesOfName::Once(value) => Some(value),
+        ValuesOfName::Absent | ValuesOfName::Often => None,
     }
 }
 

@@ -7,12 +7,12 @@ ghost use Rattle.http_message.specs.declared.kind.Kind.TheVariants as kinds;
 ghost use Rattle.http_message.specs.declared.look.Look.TheVariants as looks;
 
 use crate::expect::expects_continue;
+use crate::head_says::HeadFacts;
 use crate::kind::Kind;
 use crate::look::Look;
-use crate::methods::{Methods, taken};
+use crate::methods::{Methods, method_of};
 use crate::says::says;
 use crate::start::Start;
-use crate::told::Told;
 use httparse::Status;
 use httparse::spans::{EMPTY_HEADER_SPAN, Span, parse_request, parse_response};
 
@@ -36,12 +36,12 @@ fn look_for_request(methods: Methods, bytes: &[u8], most: u32) -> Look
     let mut fields = [EMPTY_HEADER_SPAN; MAX_FIELDS];
     match parse_request(bytes, &mut fields) {
         Ok(Status::Complete(head)) => {
-            let method = taken(methods, head.method.of(bytes));
+            let method = method_of(methods, head.method.of(bytes));
             let start = Start::Request {
                 taken: method,
                 wants_host: head.version == 1,
             };
-            Look::Head(Told {
+            Look::Head(HeadFacts {
                 size: head.len,
                 code: 0,
                 method,
@@ -65,7 +65,7 @@ fn look_for_response(bytes: &[u8], most: u32) -> Look
 {
     let mut fields = [EMPTY_HEADER_SPAN; MAX_FIELDS];
     match parse_response(bytes, &mut fields) {
-        Ok(Status::Complete(head)) => Look::Head(Told {
+        Ok(Status::Complete(head)) => Look::Head(HeadFacts {
             size: head.len,
             code: head.code,
             method: None,

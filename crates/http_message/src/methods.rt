@@ -40,8 +40,8 @@ pub(crate) fn takes(methods: Methods, method: Method) -> bool
 }
 
 /// The method of this name, if it is among them.
-pub(crate) fn taken(methods: Methods, name: &[u8]) -> Option<Method>
-    ensures { result ≡ rules.taken methods name.now }
+pub(crate) fn method_of(methods: Methods, name: &[u8]) -> Option<Method>
+    ensures { result ≡ rules.method_of methods name.now }
 {
     match method_named(name) {
         Some(method) if takes(methods, method) => Some(method),

@@ -11,8 +11,8 @@ use std::alloc::{AllocError, Global};
 use streams::Counted;
 
 /// How much of a body a request by this method is answered with.
-fn sent_to(method: Method, body: &[u8]) -> &[u8]
-    ensures { result.now ≡ texts.sent_to method body.now }
+fn body_part_for(method: Method, body: &[u8]) -> &[u8]
+    ensures { result.now ≡ texts.body_part_for method body.now }
 {
     match method {
         Method::Post | Method::Get => body,
@@ -48,7 +48,13 @@ pub fn page_bytes(
 {
     let lines = page_lines(alloc, kind, lines)?;
     let mut writer = Counted::new(Vec::new(alloc));
-    match write_sent(&mut writer, status, &lines, body, sent_to(method, body)) {
+    match write_sent(
+        &mut writer,
+        status,
+        &lines,
+        body,
+        body_part_for(method, body),
+    ) {
         Ok(()) => Ok(writer.into_inner()),
         Err(_) => Err(AllocError),
     }

@@ -2,8 +2,8 @@
 
 ghost use Rattle.std.specs.Prelude.{◌≡◌, OnOk, OnErr, IfErr};
 ghost use Rattle.streams.specs.declared.refused.Refused.TheVariants.{WriteFailed};
-ghost use Rattle.streams.specs.Streams.{used, Writes, WritesFront};
-ghost use Rattle.http_message.specs.Pieces.{joined};
+ghost use Rattle.streams.specs.Streams.{Writes, WritesFront, traffic};
+ghost use Rattle.http_message.specs.Pieces.{bytes_of_pieces};
 
 use std::io::Write;
 use streams::{Counted, Refused, write_bytes};
@@ -13,9 +13,10 @@ pub(crate) fn write_pieces<W: Write>(
     writer: &mut Counted<W>,
     pieces: &[&[u8]],
 ) -> Result<(), Refused>
-    ensures ok { OnOk result (Writes (used W.contents writer.old writer.new) (joined pieces.now)) }
+    ensures ok { OnOk result (Writes (traffic W.contents writer.old writer.new)
+        (bytes_of_pieces pieces.now)) }
     ensures front { OnErr result
-        (WritesFront (used W.contents writer.old writer.new) (joined pieces.now)) }
+        (WritesFront (traffic W.contents writer.old writer.new) (bytes_of_pieces pieces.now)) }
     ensures refusal { IfErr result (λ e. e ≡ WriteFailed) }
 {
     for piece in pieces {

@@ -3,7 +3,7 @@
 ghost use Rattle.std.specs.Prelude.{◌≡◌, ◌<◌, ◌≤◌, ◌+◌, ◌-◌, ◌^◌, length, take};
 ghost use Rattle.std.specs.Prelude.{[], IfErr, IfOk, IfSome, OnOk, vec_len};
 ghost use Rattle.std.specs.Io.KnownBytes.{IsAtEnd};
-ghost use Rattle.streams.specs.Streams.{used};
+ghost use Rattle.streams.specs.Streams.{traffic};
 ghost use Rattle.streams.specs.declared.refused.Refused.TheVariants.{ReadFailed};
 ghost use Rattle.http_message.specs.Message.{Carries, HasHead, HasMethod, HasTarget};
 ghost use Rattle.http_message.specs.Reading.{Grows, HasFailedIn, HasRead, HasWhole};
@@ -15,7 +15,7 @@ use crate::length::MAX_BODY_BYTES;
 use crate::methods::Methods;
 use crate::received::Received;
 use crate::standing::Standing;
-use crate::whole::Whole;
+use crate::whole::WholeMessage;
 use std::alloc::{AllocError, Global};
 use std::io::Read;
 use streams::{Counted, Refused, is_interruption};
@@ -44,12 +44,12 @@ fn read_some<R: Read>(
     requires low { start ≤ reader.old.calls }
     requires high { reader.old.calls ≤ start + MAX_READS }
     ensures within { IfOk result (λ count. count ≤ length buffer.new) }
-    ensures ok { IfOk result (λ count. HasRead start (used R.remaining reader.old reader.new)
+    ensures ok { IfOk result (λ count. HasRead start (traffic R.remaining reader.old reader.new)
         (take count buffer.new)) }
     ensures made { OnOk result (reader.old.calls < reader.new.calls) }
     ensures end { IfOk result (λ count. count ≡ 0 → IsAtEnd (R.remaining reader.new.inner)) }
     ensures fault { IfErr result (λ e. (e ≡ ReadFailed)
-        × HasFailedIn start (used R.remaining reader.old reader.new)) }
+        × HasFailedIn start (traffic R.remaining reader.old reader.new)) }
     ensures low { start ≤ reader.new.calls }
     ensures high { reader.new.calls ≤ start + MAX_READS }
 {
@@ -79,11 +79,11 @@ fn read_more<R: Read>(
     requires room { 0 < room }
     requires low { start ≤ reader.old.calls }
     requires high { reader.old.calls ≤ start + MAX_READS }
-    ensures ok { IfOk result (Grows start (used R.remaining reader.old reader.new)
+    ensures ok { IfOk result (Grows start (traffic R.remaining reader.old reader.new)
         incoming.old.bytes incoming.new.bytes) }
     ensures kind { incoming.new.kind ≡ incoming.old.kind }
     ensures most { incoming.new.most ≡ incoming.old.most }
-    ensures fault { IfErr result (IsMoreFault start (used R.remaining reader.old reader.new)) }
+    ensures fault { IfErr result (IsMoreFault start (traffic R.remaining reader.old reader.new)) }
     ensures low { start ≤ reader.new.calls }
     ensures high { reader.new.calls ≤ start + MAX_READS }
 {
@@ -99,17 +99,17 @@ fn read_whole<R: Read>(
     buffer: &mut [u8],
     incoming: &mut Incoming,
     start: u64,
-) -> Result<Whole, Refused>
+) -> Result<WholeMessage, Refused>
     requires buffer { 0 < length buffer.old }
     requires none { incoming.old.bytes ≡ [] }
     requires low { start ≤ reader.old.calls }
     requires high { reader.old.calls ≤ start + MAX_READS }
     ensures ok { IfOk result (HasWhole incoming.old.most incoming.old.kind start
-        (used R.remaining reader.old reader.new) incoming.new.bytes) }
+        (traffic R.remaining reader.old reader.new) incoming.new.bytes) }
     ensures kind { incoming.new.kind ≡ incoming.old.kind }
     ensures most { incoming.new.most ≡ incoming.old.most }
     ensures unread { IfErr result (IsUnreadWithin incoming.old.most incoming.old.kind start
-        (used R.remaining reader.old reader.new)) }
+        (traffic R.remaining reader.old reader.new)) }
     ensures high { reader.new.calls ≤ start + MAX_READS }
 {
     loop {
@@ -139,9 +139,9 @@ fn read_message<R: Read>(
         (λ all. HasHead kind all message.head.items)) }
     ensures target { IfOk result (λ message. IfSome (R.remaining reader.old.inner)
         (λ all. HasTarget kind all message.target.items)) }
-    ensures unfailed { OnOk result (IsUnfailed (used R.remaining reader.old reader.new)) }
+    ensures unfailed { OnOk result (IsUnfailed (traffic R.remaining reader.old reader.new)) }
     ensures unread { IfErr result (IsUnread kind reader.old.calls
-        (used R.remaining reader.old reader.new)) }
+        (traffic R.remaining reader.old reader.new)) }
     ensures bound { reader.new.calls ≤ reader.old.calls + MAX_READS }
 {
     let start = reader.calls();
@@ -175,9 +175,9 @@ pub fn read_request<R: Read>(alloc: Global, reader: &mut Counted<R>) -> Result<R
     // Proved: No read failed where a message was read, and none where the input is refused as its
     // first fault or memory runs out; else a read failed or 2,000,000 were made.
     // By `unfailed`, `unread`; `receive`: `unfailed`, `unread`.
-    ensures unfailed { OnOk result (IsUnfailed (used R.remaining reader.old reader.new)) }
+    ensures unfailed { OnOk result (IsUnfailed (traffic R.remaining reader.old reader.new)) }
     ensures unread { IfErr result (IsUnread (Kind.Request Methods.Post)
-        reader.old.calls (used R.remaining reader.old reader.new)) }
+        reader.old.calls (traffic R.remaining reader.old reader.new)) }
     // Proved: At most 2,000,000 reads are made.
     // By `bound`; `receive`: `bound`.
     ensures bound { reader.new.calls ≤ reader.old.calls + MAX_READS }
@@ -192,9 +192,9 @@ pub fn receive<R: Read>(alloc: Global, reader: &mut Counted<R>) -> Result<Receiv
     // head within its limits that tells its length, with its status.
     ensures ok { IfOk result (λ message. IfSome (R.remaining reader.old.inner)
         (λ all. Carries Kind.Response all message.status message.body)) }
-    ensures unfailed { OnOk result (IsUnfailed (used R.remaining reader.old reader.new)) }
+    ensures unfailed { OnOk result (IsUnfailed (traffic R.remaining reader.old reader.new)) }
     ensures unread { IfErr result (IsUnread Kind.Response reader.old.calls
-        (used R.remaining reader.old reader.new)) }
+        (traffic R.remaining reader.old reader.new)) }
     ensures bound { reader.new.calls ≤ reader.old.calls + MAX_READS }
 {
     read_message(alloc, reader, Kind::Response)

@@ -2,7 +2,7 @@
 
 ghost use Rattle.std.specs.Prelude.{◌≡◌, OnOk, OnErr, IfErr, option_map};
 ghost use Rattle.streams.specs.declared.refused.Refused.TheVariants.{WriteFailed};
-ghost use Rattle.streams.specs.Streams.{used, Writes, WritesFront};
+ghost use Rattle.streams.specs.Streams.{Writes, WritesFront, traffic};
 ghost use Rattle.http_message.specs.Texts as texts;
 
 use crate::lines::{BEFORE_LENGTH, BEHIND_LENGTH, NOTHING, PLAIN_LINE, TYPE_LINE};
@@ -38,9 +38,9 @@ fn write_parts<'a, W: Write>(
     body: &[u8],
     sent: &'a [u8],
 ) -> Result<(), Refused>
-    ensures ok { OnOk result (Writes (used W.contents writer.old writer.new)
+    ensures ok { OnOk result (Writes (traffic W.contents writer.old writer.new)
         (texts.parts_text code.now phrase.now lines.now body.now sent.now)) }
-    ensures front { OnErr result (WritesFront (used W.contents writer.old writer.new)
+    ensures front { OnErr result (WritesFront (traffic W.contents writer.old writer.new)
         (texts.parts_text code.now phrase.now lines.now body.now sent.now)) }
     ensures refusal { IfErr result (λ e. e ≡ WriteFailed) }
 {
@@ -71,9 +71,9 @@ pub(crate) fn write_sent<W: Write>(
     body: &[u8],
     sent: &[u8],
 ) -> Result<(), Refused>
-    ensures ok { OnOk result (Writes (used W.contents writer.old writer.new)
+    ensures ok { OnOk result (Writes (traffic W.contents writer.old writer.new)
         (texts.sent_text status lines.now body.now sent.now)) }
-    ensures front { OnErr result (WritesFront (used W.contents writer.old writer.new)
+    ensures front { OnErr result (WritesFront (traffic W.contents writer.old writer.new)
         (texts.sent_text status lines.now body.now sent.now)) }
     ensures refusal { IfErr result (λ e. e ≡ WriteFailed) }
 {
@@ -95,9 +95,9 @@ pub(crate) fn write_status<W: Write>(
     lines: &[u8],
     body: &[u8],
 ) -> Result<(), Refused>
-    ensures ok { OnOk result (Writes (used W.contents writer.old writer.new)
+    ensures ok { OnOk result (Writes (traffic W.contents writer.old writer.new)
         (texts.status_text status lines.now body.now)) }
-    ensures front { OnErr result (WritesFront (used W.contents writer.old writer.new)
+    ensures front { OnErr result (WritesFront (traffic W.contents writer.old writer.new)
         (texts.status_text status lines.now body.now)) }
     ensures refusal { IfErr result (λ e. e ≡ WriteFailed) }
 {
@@ -106,9 +106,9 @@ pub(crate) fn write_status<W: Write>(
 
 /// Writes the response to a request that was answered with a body or with none.
 fn write_answer<W: Write>(writer: &mut Counted<W>, body: Option<&[u8]>) -> Result<(), Refused>
-    ensures ok { OnOk result (Writes (used W.contents writer.old writer.new)
+    ensures ok { OnOk result (Writes (traffic W.contents writer.old writer.new)
         (texts.answer_text (option_map (λ bytes. bytes.now) body.entry))) }
-    ensures front { OnErr result (WritesFront (used W.contents writer.old writer.new)
+    ensures front { OnErr result (WritesFront (traffic W.contents writer.old writer.new)
         (texts.answer_text (option_map (λ bytes. bytes.now) body.entry))) }
     ensures refusal { IfErr result (λ e. e ≡ WriteFailed) }
 {
@@ -124,9 +124,9 @@ pub(crate) fn write_refusal<W: Write>(
     methods: Methods,
     refused: Refused,
 ) -> Result<(), Refused>
-    ensures ok { OnOk result (Writes (used W.contents writer.old writer.new)
+    ensures ok { OnOk result (Writes (traffic W.contents writer.old writer.new)
         (texts.refusal_text methods refused)) }
-    ensures front { OnErr result (WritesFront (used W.contents writer.old writer.new)
+    ensures front { OnErr result (WritesFront (traffic W.contents writer.old writer.new)
         (texts.refusal_text methods refused)) }
     ensures refusal { IfErr result (λ e. e ≡ WriteFailed) }
 {
@@ -138,9 +138,9 @@ pub(crate) fn write_refusal<W: Write>(
 /// 9112, and its one line of text our own. It takes no memory. Refuses `WriteFailed` where a write
 /// fails.
 pub fn write_missing<W: Write>(writer: &mut Counted<W>) -> Result<(), Refused>
-    ensures ok { OnOk result (Writes (used W.contents writer.old writer.new)
+    ensures ok { OnOk result (Writes (traffic W.contents writer.old writer.new)
         texts.missing_text) }
-    ensures front { OnErr result (WritesFront (used W.contents writer.old writer.new)
+    ensures front { OnErr result (WritesFront (traffic W.contents writer.old writer.new)
         texts.missing_text) }
     ensures refusal { IfErr result (λ e. e ≡ WriteFailed) }
 {
@@ -154,9 +154,9 @@ pub fn write_response<W: Write>(
     writer: &mut Counted<W>,
     answered: &Result<Option<&[u8]>, Refused>,
 ) -> Result<(), Refused>
-    ensures ok { OnOk result (Writes (used W.contents writer.old writer.new)
+    ensures ok { OnOk result (Writes (traffic W.contents writer.old writer.new)
         (texts.response_text (texts.answer_of answered.now))) }
-    ensures front { OnErr result (WritesFront (used W.contents writer.old writer.new)
+    ensures front { OnErr result (WritesFront (traffic W.contents writer.old writer.new)
         (texts.response_text (texts.answer_of answered.now))) }
     ensures refusal { IfErr result (λ e. e ≡ WriteFailed) }
 {

@@ -2,10 +2,10 @@
 
 ghost use Rattle.std.specs.Prelude.{◌≡◌, ◌≤◌, length, map, All, IfOk};
 ghost use Rattle.httparse.specs.Spans.{IsHeaderWithin, header_bytes};
-ghost use Rattle.http_message.specs.Says.{said};
+ghost use Rattle.http_message.specs.Says.{body_length};
 ghost use Rattle.http_message.specs.Says as rules;
 
-use crate::field::{Named, find_named};
+use crate::field::{ValuesOfName, find_named};
 use crate::length::length_told;
 use crate::method::Method;
 use crate::start::Start;
@@ -18,10 +18,10 @@ fn is_coded(bytes: &[u8], fields: &[HeaderSpan]) -> bool
 {
     !matches!(
         find_named(b"transfer-encoding", bytes, fields),
-        Named::Absent
+        ValuesOfName::Absent
     ) || !matches!(
         find_named(b"content-encoding", bytes, fields),
-        Named::Absent
+        ValuesOfName::Absent
     )
 }
 
@@ -38,9 +38,13 @@ fn no_body(length: Result<usize, Refused>) -> Result<usize, Refused>
 }
 
 /// The length of the body of a request by this method, where this is told of it.
-fn told_by(method: Method, length: Result<usize, Refused>, most: u32) -> Result<usize, Refused>
+fn length_by_method(
+    method: Method,
+    length: Result<usize, Refused>,
+    most: u32,
+) -> Result<usize, Refused>
     requires { IfOk length (λ n. n ≤ most) }
-    ensures value { result ≡ rules.told_by method length }
+    ensures value { result ≡ rules.length_by_method method length }
     ensures bound { IfOk result (λ n. n ≤ most) }
 {
     match method {
@@ -57,7 +61,7 @@ pub(crate) fn says(
     most: u32,
 ) -> Result<usize, Refused>
     requires { All (IsHeaderWithin (length bytes.now)) fields.now }
-    ensures value { result ≡ said most start (map (header_bytes bytes.now) fields.now) }
+    ensures value { result ≡ body_length most start (map (header_bytes bytes.now) fields.now) }
     ensures bound { IfOk result (λ n. n ≤ most) }
 {
     let length = length_told(find_named(b"content-length", bytes, fields), most);
@@ -66,11 +70,11 @@ pub(crate) fn says(
     }
     let told = match start {
         Start::Request { taken, wants_host } => {
-            if wants_host && !matches!(find_named(b"host", bytes, fields), Named::Once(_)) {
+            if wants_host && !matches!(find_named(b"host", bytes, fields), ValuesOfName::Once(_)) {
                 return Err(Refused::BadHead);
             }
             match taken {
-                Some(method) => told_by(method, length, most),
+                Some(method) => length_by_method(method, length, most),
                 None => return Err(Refused::NotPost),
             }
         }

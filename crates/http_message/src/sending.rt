@@ -4,7 +4,7 @@ ghost use Rattle.std.specs.Prelude.{◌≡◌, true, OnOk, OnErr, IfErr};
 ghost use Rattle.std.specs.Char.{is_ascii_graphic};
 ghost use Rattle.std.specs.List.{list_all};
 ghost use Rattle.streams.specs.declared.refused.Refused.TheVariants.{WriteFailed};
-ghost use Rattle.streams.specs.Streams.{used, Writes, WritesFront};
+ghost use Rattle.streams.specs.Streams.{Writes, WritesFront, traffic};
 ghost use Rattle.http_message.specs.Texts.{request_text, request_to};
 ghost use Rattle.http_message.specs.Texts as texts;
 
@@ -39,9 +39,9 @@ fn write_request<'a, W: Write>(
     target: &'a [u8],
     body: &'a [u8],
 ) -> Result<(), Refused>
-    ensures ok { OnOk result (Writes (used W.contents writer.old writer.new)
+    ensures ok { OnOk result (Writes (traffic W.contents writer.old writer.new)
         (request_to host.now target.now body.now)) }
-    ensures front { OnErr result (WritesFront (used W.contents writer.old writer.new)
+    ensures front { OnErr result (WritesFront (traffic W.contents writer.old writer.new)
         (request_to host.now target.now body.now)) }
     ensures refusal { IfErr result (λ e. e ≡ WriteFailed) }
 {
@@ -75,9 +75,9 @@ pub fn send_to<W: Write>(
     // Wants: a host and a target, each of them one word of visible ASCII.
     requires host { texts.is_word host.now ≡ true }
     requires target { texts.is_word target.now ≡ true }
-    ensures ok { OnOk result (Writes (used W.contents writer.old writer.new)
+    ensures ok { OnOk result (Writes (traffic W.contents writer.old writer.new)
         (request_to host.now target.now body.now)) }
-    ensures front { OnErr result (WritesFront (used W.contents writer.old writer.new)
+    ensures front { OnErr result (WritesFront (traffic W.contents writer.old writer.new)
         (request_to host.now target.now body.now)) }
     ensures refusal { IfErr result (λ e. e ≡ WriteFailed) }
 {
@@ -91,9 +91,9 @@ pub fn send<W: Write>(writer: &mut Counted<W>, body: &[u8]) -> Result<(), Refuse
     // write failed.
     // By `ok`, `front`; `send_to`, `write_response`, `write_missing`: `ok`, `front`.
     ensures ok { OnOk result
-        (Writes (used W.contents writer.old writer.new) (request_text body.now)) }
+        (Writes (traffic W.contents writer.old writer.new) (request_text body.now)) }
     ensures front { OnErr result
-        (WritesFront (used W.contents writer.old writer.new) (request_text body.now)) }
+        (WritesFront (traffic W.contents writer.old writer.new) (request_text body.now)) }
     // Proved: Where a text is written, only a write that failed is refused.
     // By `refusal`; `send_to`, `write_response`, `write_missing`: `refusal`.
     ensures refusal { IfErr result (λ e. e ≡ WriteFailed) }

@@ -1,7 +1,7 @@
 //! The response of a server to a request, as one text.
 
 ghost use Rattle.std.specs.Prelude.{◌≡◌, string_bytes, IfOk, OnOk, OnErr, option_map};
-ghost use Rattle.streams.specs.Streams.{used, Writes, WritesFront};
+ghost use Rattle.streams.specs.Streams.{Writes, WritesFront, traffic};
 ghost use Rattle.http_message.specs.Texts as texts;
 
 use crate::lines::TYPE_LINE;
@@ -39,7 +39,7 @@ fn write_told<W: Write>(
     methods: Methods,
     refused: &Refused,
 ) -> Result<(), AllocError>
-    ensures { OnOk result (Writes (used W.contents writer.old writer.new)
+    ensures { OnOk result (Writes (traffic W.contents writer.old writer.new)
         (texts.told_text methods refused.now)) }
 {
     let written = if is_told(methods, refused) {

@@ -2,7 +2,7 @@ use streams::Refused;
 
 /// What is wanted of a message that isn't whole.
 #[derive(Clone, Copy)]
-pub struct Wanted {
+pub struct Need {
     /// What the message is refused as, were nothing to follow.
     pub refused: Refused,
     /// How many bytes more are to be read at most, one or more: as many as a head may still have,

@@ -3,7 +3,7 @@ use httparse::spans::Span;
 
 /// Where the parts of a message stand that is whole.
 #[derive(Clone, Copy)]
-pub struct Whole {
+pub struct WholeMessage {
     /// The status of a response, and 0 of a request.
     pub(crate) status: u16,
     /// The method of a request, and none of a response.

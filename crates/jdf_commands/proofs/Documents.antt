@@ -3,18 +3,18 @@ use Rattle.std.proofs.Common.{◌≡◌, ◌∙◌, ◌⊎◌, Bool, true, false
 use Rattle.std.specs.Prelude.{IsErrAnd}
 use Rattle.ticket_items.specs.declared.refusal.Refusal.{Refusal}
 use Rattle.ticket_items.specs.declared.refusal.Refusal.TheVariants.{Memory}
-use Rattle.json_items.specs.Judged.{built_of, checked_fault, first_fault, judged, sound}
-use Rattle.jdf_commands.specs.EditCommand.Document.{IsReadRaw, IsRefusalOf, document_draft, document_has_names, document_has_texts, document_of, late_fault}
+use Rattle.json_items.specs.Validation.{built_value, checked_draft, checked_fault, checked_value, first_fault}
+use Rattle.jdf_commands.specs.EditCommand.Document.{IsReadRaw, IsRefusalOf, document_form, document_has_names, document_has_texts, document_of, late_fault}
 use Rattle.jdf_commands.specs.declared.edit_command.raw_document.RawDocument.{RawDocument}
 
-late_at : {X Y : Type 0} (named written : Bool) (late : X → Option Refusal) (made : X → Y) (x y : X) (e : Refusal) → sound (checked_fault named written None) x ≡ Ok y → late y ≡ Some e → sound (checked_fault named written (late x)) (made x) ≡ Err e
+late_at : {X Y : Type 0} (named written : Bool) (late : X → Option Refusal) (made : X → Y) (x y : X) (e : Refusal) → checked_value (checked_fault named written None) x ≡ Ok y → late y ≡ Some e → checked_value (checked_fault named written (late x)) (made x) ≡ Err e
 late_at true true late made x y e valid wrong =
     let same : x ≡ y = cc in
-    ap (λ f. sound (checked_fault true true f) (made x)) (ap late same ∙ wrong)
+    ap (λ f. checked_value (checked_fault true true f) (made x)) (ap late same ∙ wrong)
 late_at false written late made x y e valid wrong = cc
 late_at true false late made x y e valid wrong = cc
 
-late_refused : {X Y : Type 0} (names texts : X → Bool) (late : X → Option Refusal) (made : X → Y) (read : Option X) (y : X) (e : Refusal) → judged (first_fault names texts) read ≡ Ok y → late y ≡ Some e → built_of names texts late made read ≡ Err e
+late_refused : {X Y : Type 0} (names texts : X → Bool) (late : X → Option Refusal) (made : X → Y) (read : Option X) (y : X) (e : Refusal) → checked_draft (first_fault names texts) read ≡ Ok y → late y ≡ Some e → built_value names texts late made read ≡ Err e
 late_refused names texts late made None y e valid wrong = cc
 late_refused names texts late made (Some x) y e valid wrong = late_at (names x) (texts x) late made x y e valid wrong
 
@@ -28,5 +28,5 @@ refused_late (Err f) input raw e same here wrong =
       value = here.value;
       utf8 = here.utf8;
       json = here.json;
-      form = late_refused document_has_names document_has_texts late_fault document_of (document_draft here.value) raw e here.form is;
+      form = late_refused document_has_names document_has_texts late_fault document_of (document_form here.value) raw e here.form is;
     }))) wrong)

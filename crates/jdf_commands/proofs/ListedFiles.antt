@@ -6,8 +6,8 @@ use Rattle.std.proofs.lemmas.List.Concat.{flat_map-append}
 use Rattle.std.proofs.lemmas.List.Folds.{list_any-append}
 use Rattle.shop_folder.specs.declared.folder_file.FolderFile.{FolderFile}
 use Rattle.stored_state.specs.declared.any_controller.AnyController.{AnyController}
-use Rattle.jdf_commands.specs.declared.file_commands.asked.Asked.{Asked}
-use Rattle.jdf_commands.specs.declared.file_commands.listed.Listed.{Listed}
+use Rattle.jdf_commands.specs.declared.file_commands.asked.ListRequest.{ListRequest}
+use Rattle.jdf_commands.specs.declared.file_commands.listed.FileLists.{FileLists}
 use Rattle.jdf_commands.specs.FileCommands.Listing.{Adds, AreOf, Came, IsOf, ListsFiles, controller_in, controllers_in, head_of, lines_of, list_of, note_of, notes_of, other_lines, unlisted_note}
 use Rattle.streams.specs.declared.fault.Fault.{Fault}
 
@@ -23,7 +23,7 @@ nothing_more : (xs : List ℕ) → xs ≡ xs ++ []
 nothing_more xs = sym (append-nil xs)
 
 -- the controller in a file was listed
-pub adds_listed : (a : Asked) (f : FolderFile) (c : AnyController) (old new : Listed) → new.lists.first.items ≡ old.lists.first.items ++ lines_of true a c → new.lists.rest.items ≡ old.lists.rest.items ++ other_lines a c → new.notes.items ≡ old.notes.items → new.refused ≡ old.refused → Adds a f (Ok c) old new
+pub adds_listed : (a : ListRequest) (f : FolderFile) (c : AnyController) (old new : FileLists) → new.lists.first.items ≡ old.lists.first.items ++ lines_of true a c → new.lists.rest.items ≡ old.lists.rest.items ++ other_lines a c → new.notes.items ≡ old.notes.items → new.refused ≡ old.refused → Adds a f (Ok c) old new
 adds_listed a f c old new first rest notes refused =
     record {
       first = first ∙ ap (λ t. old.lists.first.items ++ t) (nothing_more (lines_of true a c));
@@ -33,7 +33,7 @@ adds_listed a f c old new first rest notes refused =
     }
 
 -- a file was not listed
-pub adds_unlisted : (a : Asked) (f : FolderFile) (fault : Fault) (old new : Listed) → new.lists.first.items ≡ old.lists.first.items → new.lists.rest.items ≡ old.lists.rest.items → new.notes.items ≡ old.notes.items ++ unlisted_note f fault → new.refused ≡ true → Adds a f (Err fault) old new
+pub adds_unlisted : (a : ListRequest) (f : FolderFile) (fault : Fault) (old new : FileLists) → new.lists.first.items ≡ old.lists.first.items → new.lists.rest.items ≡ old.lists.rest.items → new.notes.items ≡ old.notes.items ++ unlisted_note f fault → new.refused ≡ true → Adds a f (Err fault) old new
 adds_unlisted a f fault old new first rest notes refused =
     record {
       first = first ∙ nothing_more old.lists.first.items;
@@ -43,14 +43,14 @@ adds_unlisted a f fault old new first rest notes refused =
     }
 
 -- the list of one controller
-pub one_listed : (a : Asked) (c : AnyController) (first rest text : List ℕ) → text ≡ head_of a.is_json ++ first ++ rest → first ≡ lines_of true a c → rest ≡ other_lines a c → text ≡ list_of a (c ∷ [])
+pub one_listed : (a : ListRequest) (c : AnyController) (first rest text : List ℕ) → text ≡ head_of a.is_json ++ first ++ rest → first ≡ lines_of true a c → rest ≡ other_lines a c → text ≡ list_of a (c ∷ [])
 unfolding list_of
 one_listed a c first rest text is f r =
     is ∙ ap (λ t. head_of a.is_json ++ t ++ rest) (f ∙ nothing_more (lines_of true a c))
     ∙ ap (λ t. head_of a.is_json ++ (lines_of true a c ++ []) ++ t) (r ∙ nothing_more (other_lines a c))
 
 -- the lists, the notes and the refusals are those of what came of these files
-pub record IsListed (a : Asked) (files : List FolderFile) (l : Listed) : Type 0 where
+pub record IsListed (a : ListRequest) (files : List FolderFile) (l : FileLists) : Type 0 where
   pub came : List Came
   pub of_files : AreOf files came
   pub first : l.lists.first.items ≡ flat_map (lines_of true a) (controllers_in came)
@@ -84,7 +84,7 @@ any_more all o old new was is =
     is ∙ ap (λ b. b || is_err o) was ∙ ap (λ b. list_any is_err all || b) (sym (or_false (is_err o))) ∙ sym (list_any-append is_err all (o ∷ []))
 
 -- one more file
-pub listed_more : (a : Asked) (files : List FolderFile) (f : FolderFile) (o : Came) (old new : Listed) → IsListed a files old → IsOf f o → Adds a f o old new → IsListed a (files ++ f ∷ []) new
+pub listed_more : (a : ListRequest) (files : List FolderFile) (f : FolderFile) (o : Came) (old new : FileLists) → IsListed a files old → IsOf f o → Adds a f o old new → IsListed a (files ++ f ∷ []) new
 listed_more a files f o old new so is adds =
     record {
       came = so.came ++ o ∷ [];
@@ -96,13 +96,13 @@ listed_more a files f o old new so is adds =
     }
 
 -- the same of the file at an index
-pub listed_at : (a : Asked) (files : List FolderFile) (k : ℕ) (f : FolderFile) (o : Came) (old new : Listed) → k < length files → f ≡ get_or files k f → IsListed a (take k files) old → IsOf f o → Adds a f o old new → IsListed a (take (k + 1) files) new
+pub listed_at : (a : ListRequest) (files : List FolderFile) (k : ℕ) (f : FolderFile) (o : Came) (old new : FileLists) → k < length files → f ≡ get_or files k f → IsListed a (take k files) old → IsOf f o → Adds a f o old new → IsListed a (take (k + 1) files) new
 listed_at a files k f o old new within is so of_file adds =
     subst (λ (fs : List FolderFile). IsListed a fs new) (sym (take_more files k f within ∙ ap (λ x. take k files ++ x ∷ []) (sym is)))
     (listed_more a (take k files) f o old new so of_file adds)
 
 -- the list of all
-pub all_listed : (a : Asked) (files : List FolderFile) (l : Listed) (text : List ℕ) → text ≡ head_of a.is_json ++ l.lists.first.items ++ l.lists.rest.items → IsListed a files l → ListsFiles a files text l.refused l.notes.items
+pub all_listed : (a : ListRequest) (files : List FolderFile) (l : FileLists) (text : List ℕ) → text ≡ head_of a.is_json ++ l.lists.first.items ++ l.lists.rest.items → IsListed a files l → ListsFiles a files text l.refused l.notes.items
 unfolding list_of
 all_listed a files l text is so =
     record {

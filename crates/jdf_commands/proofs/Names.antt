@@ -6,8 +6,8 @@ use Rattle.ticket_items.specs.Ids.{are_distinct}
 use Rattle.ticket_items.specs.declared.refusal.Refusal.{Refusal}
 use Rattle.ticket_items.specs.declared.refusal.Refusal.TheVariants.{BadId, BadText, NotProfile, SameName}
 use Rattle.ticket_rows.specs.Ticket.{first_of, unless}
-use Rattle.json_items.specs.Judged.{sound}
-use Rattle.world_script.specs.Script.{IsReadAs, script_draft, script_fault, script_of}
+use Rattle.json_items.specs.Validation.{checked_value}
+use Rattle.world_script.specs.Script.{IsReadAs, script_fault, script_form, script_of}
 use Rattle.world_script.specs.declared.script.Script.{Script}
 
 -- where no fault is found the last test passed
@@ -21,21 +21,21 @@ last_passed true false apart ticket e = cc
 last_passed false texts apart ticket e = cc
 
 -- what is sound has no fault
-free : (f : Option Refusal) (x y : Script) → sound f x ≡ Ok y → f ≡ None
+free : (f : Option Refusal) (x y : Script) → checked_value f x ≡ Ok y → f ≡ None
 free None x y e = refl
 free (Some r) x y e = cc
 
-is_it : (f : Option Refusal) (x y : Script) → sound f x ≡ Ok y → x ≡ y
+is_it : (f : Option Refusal) (x y : Script) → checked_value f x ≡ Ok y → x ≡ y
 is_it None x y e = cc
 is_it (Some r) x y e = cc
 
 -- a script is of such names where no fault of what it is made of leaves others
 of_draft : {X : Type 0} (fault : X → Option Refusal) (made : X → Script) (o : Option X) (s : Script)
     → ((x : X) → fault x ≡ None → are_distinct ((made x).master ∷ (made x).workers) ≡ true)
-    → option_map_or (λ x. sound (fault x) (made x)) o (Err NotProfile) ≡ Ok s → are_distinct (s.master ∷ s.workers) ≡ true
+    → option_map_or (λ x. checked_value (fault x) (made x)) o (Err NotProfile) ≡ Ok s → are_distinct (s.master ∷ s.workers) ≡ true
 of_draft fault made None s apart e = cc
 of_draft fault made (Some x) s apart e =
     subst (λ (v : Script). are_distinct (v.master ∷ v.workers) ≡ true) (is_it (fault x) (made x) s e) (apart x (free (fault x) (made x) s e))
 
 pub names_apart : (bytes : List ℕ) (s : Script) → IsReadAs bytes (Ok s) → are_distinct (s.master ∷ s.workers) ≡ true
-names_apart bytes s read = of_draft script_fault script_of (script_draft read.value) s (λ x e. last_passed _ _ _ _ e) read.form
+names_apart bytes s read = of_draft script_fault script_of (script_form read.value) s (λ x e. last_passed _ _ _ _ e) read.form

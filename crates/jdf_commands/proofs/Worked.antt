@@ -9,12 +9,12 @@ use Rattle.ticket_items.specs.declared.edit.Edit.{Edit}
 use Rattle.ticket_items.specs.declared.edit.Edit.TheVariants.{SetStatus, Note}
 use Rattle.ticket_items.specs.declared.node_row.NodeRow.{NodeRow}
 use Rattle.ticket_items.specs.declared.refusal.Refusal.TheVariants.{BadId, NotProfile}
-use Rattle.json_items.specs.TicketDraft.{own_row, ticket_draft}
-use Rattle.json_items.specs.Edits.{edit_draft, adding_draft, setting_draft, set_status_draft}
-use Rattle.json_items.specs.Edits.{note_draft}
+use Rattle.json_items.specs.TicketDraft.{own_row, ticket_form}
+use Rattle.json_items.specs.Edits.{adding_form, edit_form, set_status_form, setting_form}
+use Rattle.json_items.specs.Edits.{note_form}
 use Rattle.json_items.specs.TicketForm.{node_has_names, pools_have_names, row_has_texts}
 use Rattle.json_text.specs.Written.{edit_data, ticket_data}
-use Rattle.jdf_commands.specs.EditCommand.Document.{document_draft, document_read}
+use Rattle.jdf_commands.specs.EditCommand.Document.{document_form, document_read}
 use Rattle.jdf_commands.specs.declared.edit_command.document.Document.{Document}
 use Rattle.jdf_commands.specs.EditCommand.Run.{output_of, status_of, ticket_text}
 
@@ -56,18 +56,18 @@ document e =
     (member (codes "Ticket") (ticket_data job) no_members)))
 
 one_edit : document_read (document started) ≡ Ok (of_edits (started ∷ []))
-unfolding document_draft edit_draft adding_draft setting_draft set_status_draft
-    ticket_draft own_row node_has_names pools_have_names row_has_texts
+unfolding document_form edit_form adding_form setting_form set_status_form
+    ticket_form own_row node_has_names pools_have_names row_has_texts
 one_edit = refl
 
 -- the names in edits are checked with those of the ticket
 no_node : document_read (document (Note (codes "0n") (codes "late"))) ≡ Err BadId
-unfolding document_draft edit_draft adding_draft note_draft
-    ticket_draft own_row node_has_names pools_have_names row_has_texts
+unfolding document_form edit_form adding_form note_form
+    ticket_form own_row node_has_names pools_have_names row_has_texts
 no_node = refl
 
 no_document : document_read (ticket_data job) ≡ Err NotProfile
-unfolding document_draft
+unfolding document_form
 no_document = refl
 
 -- ---- written

@@ -8,11 +8,11 @@ use Rattle.jdf_words.specs.declared.call.Call.TheVariants.{Check, Explain, Listi
 use Rattle.jdf_words.specs.declared.call.Call.TheVariants.{SendOrder, Serve, Send}
 use Rattle.keepers.specs.InFile.{InFile}
 use Rattle.keepers.specs.OnDisk.{OnDisk}
-use Rattle.stored_state.specs.Held.{Held}
+use Rattle.stored_state.specs.Held.{KeptState}
 use Rattle.stored_state.specs.declared.addressee.Addressee.{Addressee}
 use Rattle.stored_state.specs.declared.any_controller.AnyController.{AnyController}
 use Rattle.streams.specs.Ends.{GivesUp, IsFaultOf, IsOutputOf, IsUnread}
-use Rattle.streams.specs.Streams.{IsInput, IsUntouched, Use}
+use Rattle.streams.specs.Streams.{IsInput, IsUntouched, Traffic}
 use Rattle.streams.specs.declared.refused.Refused.TheVariants.{Core, LoadFailed, NoConnection}
 use Rattle.streams.specs.declared.refused.Refused.TheVariants.{ReadFailed}
 use Rattle.streams.specs.declared.fault.Fault.{Fault}
@@ -30,7 +30,8 @@ use Rattle.jdf_commands.specs.FileCommands.Commands.{Begins, BeginsNone, DoesNoS
 use Rattle.jdf_commands.specs.FileCommands.Commands.{IsMoment, Shows, Steps}
 use Rattle.jdf_commands.specs.FileCommands.Notes.{GivesOutNoting, no_notes, notes_of_order}
 use Rattle.jdf_commands.specs.FileCommands.Listing.{ListsAt}
-pub use Rattle.jdf_commands.specs.Files.{kept_in, made_in, is_honest, held, place, count}
+pub use Rattle.jdf_commands.specs.Files.{count, file_bytes, is_honest, keep_in_file}
+pub use Rattle.jdf_commands.specs.Files.{keep_in_new_file, place}
 pub use Rattle.jdf_commands.specs.Files.{load_fails, save_fails, IsNotOpened}
 
 -- why nothing is given out of the step that the bytes are, of the controller in a file: that can't
@@ -39,12 +40,12 @@ abbrev pub DoesNoneOf : (List ℕ → AnyController → Refusal → Type 0) → 
     → Fault → Type 0
 DoesNoneOf Refuses IsStep file bytes fault =
     (fault ≡ Device LoadFailed)
-    ⊎ DoesNoStep is_honest held place count load_fails save_fails Refuses IsStep bytes
-    (kept_in file) fault
+    ⊎ DoesNoStep is_honest file_bytes place count load_fails save_fails Refuses IsStep bytes
+    (keep_in_file file) fault
 
 -- the same of the input: there is no controller in the file, and nothing is read; or the input
 -- isn't read; or it is, and nothing is given out
-abbrev pub DoesNone : (List ℕ → AnyController → Refusal → Type 0) → Steps → List ℕ → Use → Fault
+abbrev pub DoesNone : (List ℕ → AnyController → Refusal → Type 0) → Steps → List ℕ → Traffic → Fault
     → Type 0
 DoesNone Refuses IsStep file input fault =
     (IsUntouched input × IsNotOpened file fault)
@@ -52,23 +53,23 @@ DoesNone Refuses IsStep file input fault =
     ⊎ ((bytes : List ℕ) × IsInput input bytes × DoesNoneOf Refuses IsStep file bytes fault))
 
 -- what a call writes, whether something that was asked for was refused, and what is noted
-abbrev pub IsOutputOfCall : Call → Use → List ℕ → Bool → List ℕ → Type 0
+abbrev pub IsOutputOfCall : Call → Traffic → List ℕ → Bool → List ℕ → Type 0
 IsOutputOfCall Edit input text refused notes =
     IsOutputOf edit_run.IsOutput input text refused × (notes ≡ [])
 IsOutputOfCall World input text refused notes =
     IsOutputOf world_run.IsOutput input text refused × (notes ≡ [])
 IsOutputOfCall (New file) input text refused notes =
-    ((to : Addressee) × (after : Held AnyController (InFile OnDisk))
-    × Begins is_honest held place false (made_in file.now) to input after text refused)
+    ((to : Addressee) × (after : KeptState AnyController (InFile OnDisk))
+    × Begins is_honest file_bytes place false (keep_in_new_file file.now) to input after text refused)
     × (notes ≡ [])
 IsOutputOfCall (Order file at) input text refused notes =
-    DoesStep is_honest held place (IsOrdered at) notes_of_order (kept_in file.now) input
+    DoesStep is_honest file_bytes place (IsOrdered at) notes_of_order (keep_in_file file.now) input
     text refused notes
 IsOutputOfCall (Take file at) input text refused notes =
-    DoesStep is_honest held place (IsHanded at) no_notes (kept_in file.now) input text refused notes
+    DoesStep is_honest file_bytes place (IsHanded at) no_notes (keep_in_file file.now) input text refused notes
 IsOutputOfCall (Show file picture at) input text refused notes =
     IsUntouched input × (now : ℕ) × IsMoment at now
-    × Shows picture now is_honest held place (kept_in file.now) text refused notes
+    × Shows picture now is_honest file_bytes place (keep_in_file file.now) text refused notes
 IsOutputOfCall (Listing file at is_open is_json) input text refused notes =
     IsUntouched input × (now : ℕ) × IsMoment at now
     × ListsAt (record { is_open = is_open; is_json = is_json; now = now }) file.now
@@ -90,16 +91,16 @@ IsNotSeen file at fault = IsNotListed file fault ⊎ ((at ≡ None) × (fault �
 
 -- a call over the network isn't run over files alone, and nothing is read; nor are `check` and
 -- `explain`, which end in their own ways
-abbrev pub IsOfNetwork : Use → Fault → Type 0
+abbrev pub IsOfNetwork : Traffic → Fault → Type 0
 IsOfNetwork input fault = IsUntouched input × (fault ≡ Device NoConnection)
 
 -- why a call gives up
-abbrev pub IsFaultOfCall : Call → Use → Fault → Type 0
+abbrev pub IsFaultOfCall : Call → Traffic → Fault → Type 0
 IsFaultOfCall Edit input fault = IsFaultOf edit_document.IsRefusalOf input fault
 IsFaultOfCall World input fault = IsFaultOf world_script.IsRefusalOf input fault
 IsFaultOfCall (New file) input fault =
     (is_there : Bool) × (to : Addressee)
-    × BeginsNone save_fails is_there (made_in file.now) to input fault
+    × BeginsNone save_fails is_there (keep_in_new_file file.now) to input fault
 IsFaultOfCall (Order file at) input fault =
     DoesNone IsNoOrder (IsOrdered at) file.now input fault
 IsFaultOfCall (Take file at) input fault =
@@ -116,7 +117,7 @@ IsFaultOfCall (Send url file) input fault = IsOfNetwork input fault
 
 -- how another call than `check` and `explain` ends: with what it writes and notes, or with why it
 -- gives up
-abbrev pub EndsNoted : Call → Use → Use → Use → ℕ → Type 0
+abbrev pub EndsNoted : Call → Traffic → Traffic → Traffic → ℕ → Type 0
 EndsNoted call input output told status =
     ((text : List ℕ) × (refused : Bool) × (notes : List ℕ)
     × IsOutputOfCall call input text refused notes
@@ -124,7 +125,7 @@ EndsNoted call input output told status =
     ⊎ ((fault : Fault) × IsFaultOfCall call input fault × GivesUp fault output told status)
 
 -- how `list` ends: the same, but that it tells a fault with its cause
-abbrev pub EndsListing : Call → Use → Use → Use → ℕ → Type 0
+abbrev pub EndsListing : Call → Traffic → Traffic → Traffic → ℕ → Type 0
 EndsListing call input output told status =
     ((text : List ℕ) × (refused : Bool) × (notes : List ℕ)
     × IsOutputOfCall call input text refused notes
@@ -132,7 +133,7 @@ EndsListing call input output told status =
     ⊎ ((fault : Fault) × IsFaultOfCall call input fault × GivesUpCaused fault output told status)
 
 -- how a call ends
-abbrev pub EndsCall : Call → Use → Use → Use → ℕ → Type 0
+abbrev pub EndsCall : Call → Traffic → Traffic → Traffic → ℕ → Type 0
 EndsCall (Check kind all) input output told status =
     EndsCheck (option_map (λ word. word.now) kind) all input output told status
 EndsCall (Explain number) input output told status =

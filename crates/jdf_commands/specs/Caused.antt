@@ -5,7 +5,7 @@ use Rattle.std.specs.List.{list_any}
 use Rattle.streams.specs.Ends.{GivesOut}
 use Rattle.streams.specs.Fault.{fault_line, fault_status}
 use Rattle.streams.specs.Refused.{name_of, number_of}
-use Rattle.streams.specs.Streams.{IsUntouched, Use}
+use Rattle.streams.specs.Streams.{IsUntouched, Traffic}
 use Rattle.streams.specs.declared.fault.Fault.{Fault}
 use Rattle.streams.specs.declared.fault.Fault.TheVariants.{Device, Input}
 use Rattle.streams.specs.declared.refused.Refused.{Refused}
@@ -37,18 +37,18 @@ IsCausedLine fault line =
     (cause : List ℕ) × (is_one_line cause ≡ true) × (line ≡ caused_line fault (Some cause))
 
 -- the fault's line is told, or with some cause, or a front of that where a write failed
-abbrev pub TellsCaused : Fault → Use → Type 0
+abbrev pub TellsCaused : Fault → Traffic → Type 0
 TellsCaused fault told =
     (line : List ℕ) × ((line ≡ caused_line fault None) ⊎ IsCausedLine fault line)
     × TellsText line told
 
 -- nothing is written, the fault is told so, and the status is the fault's
-abbrev pub GivesUpCaused : Fault → Use → Use → ℕ → Type 0
+abbrev pub GivesUpCaused : Fault → Traffic → Traffic → ℕ → Type 0
 GivesUpCaused fault output told status =
     IsUntouched output × TellsCaused fault told × (status ≡ fault_status fault)
 
 -- such an output is given out, or it is given up for such a fault
-abbrev pub EndsWithCaused : (List ℕ → Bool → Type 0) → (Fault → Type 0) → Use → Use → ℕ → Type 0
+abbrev pub EndsWithCaused : (List ℕ → Bool → Type 0) → (Fault → Type 0) → Traffic → Traffic → ℕ → Type 0
 EndsWithCaused IsOutput IsFault output told status =
     ((text : List ℕ) × (refused : Bool) × IsOutput text refused
     × GivesOut text refused output told status)

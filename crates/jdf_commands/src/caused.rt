@@ -4,7 +4,7 @@ ghost use Rattle.std.specs.Prelude.{◌≡◌, IfOk, IfSome, string_bytes};
 ghost use Rattle.jdf_commands.specs.Caused as causes;
 ghost use Rattle.jdf_commands.specs.Caused.{IsCausedLine, TellsCaused};
 ghost use Rattle.streams.specs.Fault.{fault_status};
-ghost use Rattle.streams.specs.Streams.{used};
+ghost use Rattle.streams.specs.Streams.{traffic};
 
 use crate::told::tell_text;
 use journal::system_words;
@@ -16,43 +16,43 @@ use streams::{Counted, Fault, Refused, tell};
 
 /// Why a call gave up, and what that comes from, where that is known.
 #[derive(Drop)]
-pub struct Caused {
+pub struct CausedFault {
     /// The fault.
     pub fault: Fault,
     /// What it comes from. Nothing is proved of it.
     pub cause: Option<String>,
 }
 
-impl Caused {
+impl CausedFault {
     ghost use Rattle.std.specs.Prelude.{◌≡◌};
 
     /// A fault of which no more is known.
-    pub fn bare(fault: Fault) -> Caused
+    pub fn without_cause(fault: Fault) -> CausedFault
         // Proved: A fault that is told with its cause is that fault, and has its status.
-        // By `Caused::at`, `Caused::of_error`, `Caused::at_path`; `give_up_caused`: `told`,
-        // `status`.
+        // By `CausedFault::at`, `CausedFault::of_error`, `CausedFault::at_path`; `give_up_caused`:
+        // `errors`, `status`.
         ensures { result.fault ≡ fault }
     {
-        Caused { fault, cause: None }
+        CausedFault { fault, cause: None }
     }
 
     /// A fault that comes from what has this name, if there is memory to say so.
-    pub fn at(alloc: Global, fault: Fault, name: &str) -> Caused
+    pub fn at(alloc: Global, fault: Fault, name: &str) -> CausedFault
         ensures { result.fault ≡ fault }
     {
-        Caused {
+        CausedFault {
             fault,
             cause: String::from_str(alloc, name).ok(),
         }
     }
 
     /// A fault that comes from what has this name, for this error, if there is memory to say so.
-    pub fn of_error(alloc: Global, fault: Fault, name: &str, error: &io::Error) -> Caused
+    pub fn of_error(alloc: Global, fault: Fault, name: &str, error: &io::Error) -> CausedFault
         ensures { result.fault ≡ fault }
     {
-        Caused {
+        CausedFault {
             fault,
-            cause: named(alloc, name, system_words(alloc, error)),
+            cause: name_with_words(alloc, name, system_words(alloc, error)),
         }
     }
 
@@ -64,30 +64,30 @@ impl Caused {
         fault: Fault,
         path: &str,
         otherwise: &str,
-    ) -> Caused
+    ) -> CausedFault
         ensures { result.fault ≡ fault }
     {
         let cause = match fault {
             Fault::Device(Refused::LoadFailed | Refused::SaveFailed) => {
-                named(alloc, path, trouble_at(rt, alloc, path, otherwise))
+                name_with_words(alloc, path, trouble_at(rt, alloc, path, otherwise))
             }
             _ => None,
         };
-        Caused { fault, cause }
+        CausedFault { fault, cause }
     }
 }
 
-impl From<Fault> for Caused {
+impl From<Fault> for CausedFault {
     ghost use Rattle.std.specs.Prelude.{◌≡◌};
 
     ghost from_gives = { λ fault caused. caused.fault ≡ fault };
 
-    fn from(fault: Fault) -> Caused {
-        Caused::bare(fault)
+    fn from(fault: Fault) -> CausedFault {
+        CausedFault::without_cause(fault)
     }
 }
 
-impl From<AllocError> for Caused {
+impl From<AllocError> for CausedFault {
     ghost use Rattle.std.specs.Prelude.{◌≡◌};
     ghost use Rattle.ticket_items.specs.declared.refusal.Refusal.TheVariants.{Memory};
     ghost use Rattle.streams.specs.declared.refused.Refused.TheVariants.{Core};
@@ -95,13 +95,13 @@ impl From<AllocError> for Caused {
 
     ghost from_gives = { λ _ caused. caused.fault ≡ Input (Core Memory) };
 
-    fn from(error: AllocError) -> Caused {
-        Caused::bare(Fault::from(error))
+    fn from(error: AllocError) -> CausedFault {
+        CausedFault::without_cause(Fault::from(error))
     }
 }
 
 /// A name, and behind it these words, if there are any.
-fn named(alloc: Global, name: &str, words: Result<String, AllocError>) -> Option<String> {
+fn name_with_words(alloc: Global, name: &str, words: Result<String, AllocError>) -> Option<String> {
     match words {
         Ok(words) if !words.is_empty() => format!(in alloc; "{name}: {words}").ok(),
         _ => String::from_str(alloc, name).ok(),
@@ -161,7 +161,7 @@ fn line_with(alloc: Global, refused: &Refused, cause: &str) -> Result<String, Al
 
 /// The line of a fault with its cause, where that is known, stands on one line, and there is memory
 /// for it.
-fn line_with_cause(alloc: Global, caused: &Caused) -> Option<String>
+fn line_with_cause(alloc: Global, caused: &CausedFault) -> Option<String>
     ensures { IfSome result (λ line. IsCausedLine caused.now.fault (string_bytes line)) }
 {
     let cause = caused.cause.as_ref()?.as_str();
@@ -172,8 +172,8 @@ fn line_with_cause(alloc: Global, caused: &Caused) -> Option<String>
 }
 
 /// Tells a fault with its cause in one line, as far as `faults` takes it.
-fn tell_caused<F: Write>(alloc: Global, caused: &Caused, faults: &mut Counted<F>)
-    ensures { TellsCaused caused.now.fault (used F.contents faults.old faults.new) }
+fn tell_caused<F: Write>(alloc: Global, caused: &CausedFault, faults: &mut Counted<F>)
+    ensures { TellsCaused caused.now.fault (traffic F.contents faults.old faults.new) }
 {
     match line_with_cause(alloc, caused) {
         Some(line) => tell_text(faults, line.as_str()),
@@ -182,8 +182,8 @@ fn tell_caused<F: Write>(alloc: Global, caused: &Caused, faults: &mut Counted<F>
 }
 
 /// Tells a fault with its cause in one line, as far as `faults` takes it. Answers the exit status.
-pub fn give_up_caused<F: Write>(alloc: Global, caused: Caused, faults: &mut Counted<F>) -> u8
-    ensures told { TellsCaused caused.fault (used F.contents faults.old faults.new) }
+pub fn give_up_caused<F: Write>(alloc: Global, caused: CausedFault, faults: &mut Counted<F>) -> u8
+    ensures errors { TellsCaused caused.fault (traffic F.contents faults.old faults.new) }
     ensures status { result ≡ fault_status caused.fault }
 {
     tell_caused(alloc, &caused, faults);

@@ -2,7 +2,7 @@
 
 ghost use Rattle.std.specs.Prelude.{◌≡◌, IfErr, IfOk, false};
 ghost use Rattle.ticket_items.specs.declared.refusal.Refusal.TheVariants.{Memory};
-ghost use Rattle.streams.specs.Streams.{used};
+ghost use Rattle.streams.specs.Streams.{traffic};
 ghost use Rattle.streams.specs.declared.fault.Fault.TheVariants.{Input};
 ghost use Rattle.streams.specs.declared.refused.Refused.TheVariants.{Core};
 ghost use Rattle.refusal_rows.specs.Rows as rows;
@@ -23,7 +23,7 @@ const NO_REFUSAL_TEXT: &str = "error: no refusal has this number\n\nUsage: jdf_c
 
 /// Tells that no refusal has a number, as far as `faults` takes it. Answers `NO_REFUSAL`.
 fn tell_no_refusal<F: Write>(faults: &mut Counted<F>) -> u8
-    ensures told { TellsText no_refusal_text (used F.contents faults.old faults.new) }
+    ensures errors { TellsText no_refusal_text (traffic F.contents faults.old faults.new) }
     ensures status { result ≡ NO_REFUSAL }
 {
     tell_text(faults, NO_REFUSAL_TEXT);
@@ -53,8 +53,8 @@ pub fn run_explain<W: Write, F: Write>(
 ) -> u8
     // Proved: `explain` writes the row that has the number, all of it and nothing else, with
     // status 0; where none has it, it writes nothing, with status 2.
-    ensures { EndsRow (rows.text_of number.now) (used W.contents writer.old writer.new)
-        (used F.contents faults.old faults.new) result }
+    ensures { EndsRow (rows.text_of number.now) (traffic W.contents writer.old writer.new)
+        (traffic F.contents faults.old faults.new) result }
 {
     match text_of(number) {
         Some(text) => finish(text_output(alloc, text), writer, faults),

@@ -10,12 +10,12 @@ mod file_commands;
 mod told;
 mod world_command;
 
-pub use caused::{Caused, give_up_caused};
+pub use caused::{CausedFault, give_up_caused};
 pub use check_command::run_check;
 pub use edit_command::run_edit;
 pub use explain_command::run_explain;
 pub use file_commands::{
-    Noted, Ordered, answer_output, begin, call_output, finish_noting, order_in_file, order_noted,
-    refused_by, run_file, step_output, take_in_file, worker_text,
+    OrderOutput, OutputWithNotes, answer_output, begin, call_output, finish_noting, order_in_file,
+    order_noted, refused_by, run_file, step_output, take_in_file, worker_text,
 };
 pub use world_command::{push_line, run_world};

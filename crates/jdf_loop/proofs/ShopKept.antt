@@ -6,7 +6,7 @@ use Rattle.ticket_items.specs.declared.refusal.Refusal.{Refusal}
 use Rattle.controller.specs.declared.message.Message.{Message}
 use Rattle.streams.specs.declared.refused.Refused.{Refused as CallRefused}
 use Rattle.json_profile.specs.ReadAs.{IsReadAs}
-use Rattle.worker_core.specs.Worker.{Known}
+use Rattle.worker_core.specs.Worker.{State as WorkerState}
 use Rattle.worker_core.specs.declared.order.Order.{Order}
 use Rattle.controller_form.specs.States.MasterForm.{master_state_read}
 use Rattle.controller_form.specs.States.WorkerForm.{worker_state_read}
@@ -14,7 +14,7 @@ use Rattle.stored_state.specs.Step.{TextStep}
 use Rattle.world_items.specs.declared.what.What.{What}
 use Rattle.world_items.specs.declared.what.What.TheVariants as what
 use Rattle.jdf_loop.specs.Handing.{Takes}
-use Rattle.jdf_loop.specs.Shop.{AreKept, ChangesWorker, Delivers, Does, HandsMessage, HandsText, HandsToNamed, InMemory, IsKeptIn, IsRestarted, OrdersNamed, Restarts, RestartsMaster, RestartsNamed, RestartsWorker, State, Stays, Steps, held, is_honest, master_state, worker_state}
+use Rattle.jdf_loop.specs.Shop.{AreKept, ChangesWorker, Delivers, Does, HandsMessage, HandsText, HandsToNamed, InMemory, IsKeptIn, IsRestarted, OrdersNamed, Restarts, RestartsMaster, RestartsNamed, RestartsWorker, State, Stays, Steps, held_text, is_honest, master_state, worker_state}
 use Rattle.jdf_loop.specs.declared.event_line.EventLine.{EventLine}
 
 -- ---- one controller
@@ -38,7 +38,7 @@ done_kept t r step after old new line does =
     record { holds = does.saved.holds refl ∙ ap t (sym does.saved.after); again = does.again; fresh = does.saved.fresh }
 
 taken_kept : {C : Type 0} (state_text : C → List ℕ) (state_read : Data → Result C Refusal) (does : Message → TextStep C) (before after : InMemory C) (refusal : Option CallRefused) → IsKeptIn state_text state_read before
-    → Takes is_honest held state_text state_read does before after refusal → IsKeptIn state_text state_read after
+    → Takes is_honest held_text state_text state_read does before after refusal → IsKeptIn state_text state_read after
 taken_kept t r does before after refusal kept (inl step) =
     record { holds = step.1.holds refl ∙ ap t (sym step.1.after); again = step.2 refl; fresh = step.1.fresh }
 taken_kept t r does before after refusal kept (inr none) = subst (IsKeptIn t r) (sym none.0) kept
@@ -59,10 +59,10 @@ put_back (y ∷ ys) zero x at =
     ap (λ z. z ∷ ys) same
 put_back (y ∷ ys) (suc k) x at = ap (λ zs. y ∷ zs) (put_back ys k x at)
 
-worker_kept : (name : List ℕ) (old new : State) (before after : InMemory Known) → ChangesWorker name old new before after → AreKept old → IsKeptIn worker_state worker_state_read before
+worker_kept : (name : List ℕ) (old new : State) (before after : InMemory WorkerState) → ChangesWorker name old new before after → AreKept old → IsKeptIn worker_state worker_state_read before
 worker_kept name old new before after changes kept = here (IsKeptIn worker_state worker_state_read) old.workers changes.place before changes.there kept.workers
 
-changed_kept : (name : List ℕ) (old new : State) (before after : InMemory Known) → ChangesWorker name old new before after → AreKept old → IsKeptIn worker_state worker_state_read after → AreKept new
+changed_kept : (name : List ℕ) (old new : State) (before after : InMemory WorkerState) → ChangesWorker name old new before after → AreKept old → IsKeptIn worker_state worker_state_read after → AreKept new
 changed_kept name old new before after changes kept is =
     record {
       master = subst (IsKeptIn master_state master_state_read) (sym changes.master) kept.master;

@@ -10,7 +10,7 @@ use Rattle.controller.specs.declared.reply.Reply.{Reply}
 use Rattle.streams.specs.declared.refused.Refused.{Refused as CallRefused}
 use Rattle.json_profile.specs.ReadAs.{IsReadAs}
 use Rattle.worker_core.specs.Orders.{order_step}
-use Rattle.worker_core.specs.Worker.{Known}
+use Rattle.worker_core.specs.Worker.{State as WorkerState}
 use Rattle.worker_core.specs.declared.order.Order.{Order}
 use Rattle.controller_form.specs.States.WorkerForm.{worker_state_read}
 use Rattle.stored_state.specs.Message.{message_text}
@@ -23,7 +23,7 @@ use Rattle.master_core.specs.Messages as master_messages
 use Rattle.controller_form.specs.States.MasterForm.{master_state_read}
 use Rattle.jdf_loop.specs.EventLine.{handed_line}
 use Rattle.jdf_loop.specs.Handing.{Takes}
-use Rattle.jdf_loop.specs.Shop.{Does, HandsToMaster, InMemory, OrdersNamed, RestartsNamed, State, held, is_honest, is_named, master_state, worker_state}
+use Rattle.jdf_loop.specs.Shop.{Does, HandsToMaster, InMemory, OrdersNamed, RestartsNamed, State, held_text, is_honest, is_named, master_state, worker_state}
 use Rattle.jdf_loop.specs.declared.event_line.EventLine.{EventLine}
 use Rattle.jdf_loop.specs.declared.event_line.EventLine.TheVariants.{Answered}
 use Rattle.jdf_loop.proofs.ShopWorkers.{changed}
@@ -39,7 +39,7 @@ does_it t rd step after reply message old new line at fresh holds again says goe
       told = told ∙ (λ i. Answered (record { word = word_of (says i); number = number_of old (goes i) }));
     }
 
-pub orders_there : (old : State) (name : List ℕ) (order : Order) (at place : ℕ) (seen : List (InMemory Known)) (x after : InMemory Known) (reply : Result Reply Refusal) (message : Option (List ℕ)) (messages : List (List ℕ)) (r : Result EventLine CallRefused)
+pub orders_there : (old : State) (name : List ℕ) (order : Order) (at place : ℕ) (seen : List (InMemory WorkerState)) (x after : InMemory WorkerState) (reply : Result Reply Refusal) (message : Option (List ℕ)) (messages : List (List ℕ)) (r : Result EventLine CallRefused)
     → seen ≡ old.workers → Some place ≡ position (is_named name) seen → x ≡ get_or old.workers place x
     → after.controller ≡ (order_step order at x.controller).next → after.stale ≡ false → (true ≡ true → after.keep ≡ worker_state after.controller) → (true ≡ true → IsReadAs worker_state_read after.keep (Ok after.controller))
     → reply ≡ (order_step order at x.controller).reply → message ≡ option_map message_text (order_step order at x.controller).sent
@@ -54,7 +54,7 @@ orders_there old name order at place seen x after reply message messages (Ok lin
       does = does_it worker_state worker_state_read (order_step order at x.controller) after reply message old.messages messages line next fresh holds again says goes told sent;
     })
 
-pub restarts_there : (old : State) (name : List ℕ) (place : ℕ) (seen : List (InMemory Known)) (x after : InMemory Known) (line : EventLine)
+pub restarts_there : (old : State) (name : List ℕ) (place : ℕ) (seen : List (InMemory WorkerState)) (x after : InMemory WorkerState) (line : EventLine)
     → seen ≡ old.workers → Some place ≡ position (is_named name) seen → x ≡ get_or old.workers place x
     → IsReadAs worker_state_read x.keep (Ok after.controller) → after.keep ≡ x.keep → after.stale ≡ false → line ≡ Answered (answer_without_step word.Restarted)
     → RestartsNamed name old (record { master = old.master; workers = set old.workers place after; messages = old.messages }) line
@@ -68,9 +68,9 @@ restarts_there old name place seen x after line same there is read keeps fresh t
       told = told;
     })
 
-pub hands_to_master : (old : State) (m : Message) (at : ℕ) (after : InMemory master.Known) (refusal : Option CallRefused) (answer : Option (List ℕ)) (messages : List (List ℕ)) (reply : Reply) (r : Result EventLine CallRefused)
-    → Takes is_honest held master_state master_state_read (λ y. in_text (master_messages.take_step y at old.master.controller)) old.master after refusal
-    → reply ≡ (master_messages.taken m.body at old.master.controller).reply
+pub hands_to_master : (old : State) (m : Message) (at : ℕ) (after : InMemory master.State) (refusal : Option CallRefused) (answer : Option (List ℕ)) (messages : List (List ℕ)) (reply : Reply) (r : Result EventLine CallRefused)
+    → Takes is_honest held_text master_state master_state_read (λ y. in_text (master_messages.take_step y at old.master.controller)) old.master after refusal
+    → reply ≡ (master_messages.on_body m.body at old.master.controller).reply
     → IfOk r (λ line. line ≡ handed_line reply refusal (number_of old.messages answer)) → OnOk r (messages ≡ with_sent old.messages answer)
     → IfOk r (HandsToMaster m at old (record { master = after; workers = old.workers; messages = messages }))
 hands_to_master old m at after refusal answer messages reply (Err e) takes replies told sent = tt

@@ -8,7 +8,7 @@ use Rattle.json_profile.specs.ReadAs.{IsReadAs}
 use Rattle.http_edge.specs.Exchange.{refusal_in}
 use Rattle.http_message.specs.Message.{Carries}
 use Rattle.http_message.specs.declared.kind.Kind.TheVariants as kinds
-use Rattle.stored_state.specs.Held.{Held}
+use Rattle.stored_state.specs.Held.{KeptState}
 use Rattle.stored_state.specs.Step.{IsSaved, TextStep}
 use Rattle.streams.specs.declared.refused.Refused.{Refused}
 use Rattle.streams.specs.declared.refused.Refused.TheVariants.{Core, LoadFailed, SaveFailed, Stale}
@@ -47,7 +47,7 @@ IsBodyOf all answer =
 -- the receiver made one step, by some message, which is saved and is read again as it was; or none,
 -- which is refused, and then it stands as it stood
 abbrev pub Takes : {C K : Type 0} → (K → Bool) → (K → List ℕ) → (C → List ℕ)
-    → (Data → Result C Refusal) → (Message → TextStep C) → Held C K → Held C K → Option Refused
+    → (Data → Result C Refusal) → (Message → TextStep C) → KeptState C K → KeptState C K → Option Refused
     → Type 0
 Takes is_honest held state_text state_read does old new refusal =
     ((m : Message) × IsSaved is_honest held state_text (does m) new

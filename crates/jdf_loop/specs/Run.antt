@@ -3,7 +3,7 @@ use Rattle.std.specs.Prelude.{◌≡◌, ◌⊎◌, ℕ, Bool, List, ◌++◌, O
 use Rattle.jdf_commands.specs.FileCommands.Shown.{master_text}
 use Rattle.master_core.specs.Master as master
 use Rattle.streams.specs.Ends.{EndsWith, IsFaultOf}
-use Rattle.streams.specs.Streams.{IsInput, Use}
+use Rattle.streams.specs.Streams.{IsInput, Traffic}
 use Rattle.streams.specs.declared.fault.Fault.{Fault}
 use Rattle.streams.specs.declared.fault.Fault.TheVariants.{Device}
 use Rattle.streams.specs.declared.refused.Refused.{Refused}
@@ -15,7 +15,7 @@ use Rattle.world_items.specs.declared.event.Event.{Event}
 use Rattle.jdf_loop.specs.declared.event_line.EventLine.{EventLine}
 
 -- what is written of a run: its lines, and the text of the ticket that the master shows
-pub record IsWritten (told : List EventLine) (shown : master.Known) (text : List ℕ)
+pub record IsWritten (told : List EventLine) (shown : master.State) (text : List ℕ)
     (refused : Bool) : Type 0 where
   pub written : text ≡ lines told ++ master_text shown
   pub status : refused ≡ has_too_large told
@@ -34,26 +34,26 @@ abbrev pub IsRunOf : Script → List ℕ → Bool → Type 0
 IsRunOf script = IsRunFrom (opening script.master script.workers script.ticket) script.events
 
 -- the input is read as this script, in which no controller stops
-pub record IsScript (input : Use) (script : Script) : Type 0 where
+pub record IsScript (input : Traffic) (script : Script) : Type 0 where
   pub bytes : List ℕ
   pub is_input : IsInput input bytes
   pub read : IsReadAsRunning bytes (Ok script)
 
 -- what is written for the script that was read
-abbrev pub IsOutput : Use → List ℕ → Bool → Type 0
+abbrev pub IsOutput : Traffic → List ℕ → Bool → Type 0
 IsOutput input text refused =
     (script : Script) × IsScript input script × IsRunOf script text refused
 
 -- the script was read, and then the network or a controller's keeper failed, or memory ran out
-abbrev pub IsCutOff : Use → Fault → Type 0
+abbrev pub IsCutOff : Traffic → Fault → Type 0
 IsCutOff input fault =
     ((script : Script) × IsScript input script) × ((why : Refused) × (fault ≡ Device why))
 
 -- why nothing is written: the script isn't read, or its run is cut off
-abbrev pub IsFault : Use → Fault → Type 0
+abbrev pub IsFault : Traffic → Fault → Type 0
 IsFault input fault = IsFaultOf IsRefusalOfRunning input fault ⊎ IsCutOff input fault
 
 -- how `loop` ends: with what it writes, or with why it gives up
-abbrev pub EndsLoop : Use → Use → Use → ℕ → Type 0
+abbrev pub EndsLoop : Traffic → Traffic → Traffic → ℕ → Type 0
 EndsLoop input output told status =
     EndsWith (IsOutput input) (IsFault input) output told status

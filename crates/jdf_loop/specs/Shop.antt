@@ -25,7 +25,7 @@ use Rattle.worker_core.specs.declared.order.Order as worker_order
 use Rattle.json_profile.specs.ReadAs.{IsReadAs}
 use Rattle.controller_form.specs.States.MasterForm.{master_state_data, master_state_read}
 use Rattle.controller_form.specs.States.WorkerForm.{worker_state_data, worker_state_read}
-use Rattle.stored_state.specs.Held.{Held}
+use Rattle.stored_state.specs.Held.{KeptState}
 use Rattle.stored_state.specs.Message.{IsOfMessage}
 use Rattle.stored_state.specs.Step.{IsSaved, TextStep, in_text}
 use Rattle.world.specs.Settling.{answer_without_step, number_of, with_sent}
@@ -47,26 +47,26 @@ use Rattle.jdf_loop.specs.declared.shop.TheConstants.{MAX_SENT_BYTES}
 abbrev pub is_honest : List ℕ → Bool
 is_honest keep = true
 
-abbrev pub held : List ℕ → List ℕ
-held keep = keep
+abbrev pub held_text : List ℕ → List ℕ
+held_text keep = keep
 
 -- a controller beside a keeper in memory
 abbrev pub InMemory : Type 0 → Type 0
-InMemory C = Held C (List ℕ)
+InMemory C = KeptState C (List ℕ)
 
 -- the text of its state
-abbrev pub master_state : master.Known → List ℕ
+abbrev pub master_state : master.State → List ℕ
 master_state m = compact_text (master_state_data m)
 
-abbrev pub worker_state : worker.Known → List ℕ
+abbrev pub worker_state : worker.State → List ℕ
 worker_state w = compact_text (worker_state_data w)
 
 -- a controller beside a keeper that holds its state
-abbrev pub kept_as : {C : Type 0} → (C → List ℕ) → C → InMemory C
-kept_as state_text c = record { controller = c; keep = state_text c; stale = false }
+abbrev pub in_memory : {C : Type 0} → (C → List ℕ) → C → InMemory C
+in_memory state_text c = record { controller = c; keep = state_text c; stale = false }
 
 -- whether a worker has this name
-abbrev pub is_named : List ℕ → InMemory worker.Known → Bool
+abbrev pub is_named : List ℕ → InMemory worker.State → Bool
 is_named name w = bytes_eq w.controller.name name
 
 -- ---- all of them
@@ -74,8 +74,8 @@ is_named name w = bytes_eq w.controller.name name
 -- the master, its workers in the order in which it names them, and the texts of all messages in the
 -- order in which they were sent
 pub record State : Type 0 where
-  pub master : InMemory master.Known
-  pub workers : List (InMemory worker.Known)
+  pub master : InMemory master.State
+  pub workers : List (InMemory worker.State)
   pub messages : List (List ℕ)
 
 -- a controller stands beside a keeper that holds its state, which is read again as it is
@@ -91,18 +91,18 @@ pub record AreKept (s : State) : Type 0 where
   pub workers : All (IsKeptIn worker_state worker_state_read) s.workers
 
 -- a master beside a keeper that holds its state, and workers; nothing was sent
-abbrev pub unsent : master.Known → List (InMemory worker.Known) → State
-unsent m workers =
-    record { master = kept_as master_state m; workers = workers; messages = [] }
+abbrev pub quiet_state : master.State → List (InMemory worker.State) → State
+quiet_state m workers =
+    record { master = in_memory master_state m; workers = workers; messages = [] }
 
 -- in the beginning nothing is out, and nothing was sent
 abbrev pub opening : List ℕ → List (List ℕ) → Job → State
 opening name workers ticket =
-    unsent (master.known name workers ticket [])
-    (map (λ w. kept_as worker_state (new_worker name w)) workers)
+    quiet_state (master.state name workers ticket [])
+    (map (λ w. in_memory worker_state (new_worker name w)) workers)
 
 -- the worker of a name is another then; the master and all other workers are as they were
-pub record ChangesWorker (name : List ℕ) (old new : State) (before after : InMemory worker.Known)
+pub record ChangesWorker (name : List ℕ) (old new : State) (before after : InMemory worker.State)
     : Type 0 where
   pub place : ℕ
   pub found : position (is_named name) old.workers ≡ Some place
@@ -129,7 +129,7 @@ HasNone name old = position (is_named name) old.workers ≡ None
 pub record Does {C : Type 0} (state_text : C → List ℕ) (state_read : Data → Result C Refusal)
     (step : TextStep C) (after : InMemory C) (old new : List (List ℕ)) (line : EventLine)
     : Type 0 where
-  pub saved : IsSaved is_honest held state_text step after
+  pub saved : IsSaved is_honest held_text state_text step after
   pub again : IsReadAs state_read after.keep (Ok after.controller)
   pub messages : new ≡ with_sent old step.sent
   pub told : line ≡ step_line old step
@@ -146,8 +146,8 @@ pub record OrdersMaster (order : master_order.Order) (at : ℕ) (old new : State
 -- the worker of a name does
 pub record OrdersWorker (name : List ℕ) (order : worker_order.Order) (at : ℕ) (old new : State)
     (line : EventLine) : Type 0 where
-  pub before : InMemory worker.Known
-  pub after : InMemory worker.Known
+  pub before : InMemory worker.State
+  pub after : InMemory worker.State
   pub changes : ChangesWorker name old new before after
   pub does :
       Does worker_state worker_state_read
@@ -168,7 +168,7 @@ pub record Hands {C : Type 0} (state_text : C → List ℕ) (state_read : Data �
     (does : Message → TextStep C) (reply : Reply) (before after : InMemory C)
     (old new : List (List ℕ)) (line : EventLine) : Type 0 where
   pub refusal : Option CallRefused
-  pub takes : Takes is_honest held state_text state_read does before after refusal
+  pub takes : Takes is_honest held_text state_text state_read does before after refusal
   pub answer : Option (List ℕ)
   pub messages : new ≡ with_sent old answer
   pub told : line ≡ handed_line reply refusal (number_of old answer)
@@ -179,20 +179,20 @@ pub record HandsToMaster (m : Message) (at : ℕ) (old new : State) (line : Even
   pub hands :
       Hands master_state master_state_read
       (λ x. in_text (master_messages.take_step x at old.master.controller))
-      (master_messages.taken m.body at old.master.controller).reply old.master new.master
+      (master_messages.on_body m.body at old.master.controller).reply old.master new.master
       old.messages new.messages line
   pub workers : new.workers ≡ old.workers
 
 -- to the worker that it is for
 pub record HandsToWorker (m : Message) (at : ℕ) (old new : State) (line : EventLine)
     : Type 0 where
-  pub before : InMemory worker.Known
-  pub after : InMemory worker.Known
+  pub before : InMemory worker.State
+  pub after : InMemory worker.State
   pub changes : ChangesWorker m.receiver old new before after
   pub hands :
       Hands worker_state worker_state_read
       (λ x. in_text (worker_messages.take_step x at before.controller))
-      (worker_messages.taken m.body at before.controller).reply before after
+      (worker_messages.on_body m.body at before.controller).reply before after
       old.messages new.messages line
 
 -- if there is one
@@ -239,8 +239,8 @@ pub record RestartsMaster (old new : State) (line : EventLine) : Type 0 where
 
 -- the worker of a name is
 pub record RestartsWorker (name : List ℕ) (old new : State) (line : EventLine) : Type 0 where
-  pub before : InMemory worker.Known
-  pub after : InMemory worker.Known
+  pub before : InMemory worker.State
+  pub after : InMemory worker.State
   pub changes : ChangesWorker name old new before after
   pub restarted : IsRestarted worker_state_read before after
   pub messages : new.messages ≡ old.messages

@@ -4,14 +4,14 @@ ghost use Rattle.std.specs.Prelude.{IfErr, IfOk};
 ghost use Rattle.jdf_loop.specs.Run as run;
 ghost use Rattle.jdf_loop.specs.Shop.{StepsAll};
 ghost use Rattle.streams.specs.Ends.{IsFaultOf};
-ghost use Rattle.streams.specs.Streams.{used};
+ghost use Rattle.streams.specs.Streams.{traffic};
 ghost use Rattle.world_script.specs.Script.{IsRefusalOfRunning};
 
 use crate::event_line::EventLine;
 use crate::loopback::Loopback;
 use crate::pushing::push;
 use crate::shop::Shop;
-use crate::written::written_of;
+use crate::written::run_text;
 use std::alloc::Global;
 use std::io::{Read, Write};
 use std::net::Net;
@@ -36,7 +36,7 @@ fn run_events<N: Net>(
 }
 
 /// What is written of a shop in which these events happen. Refuses what the run ends with.
-fn written_after<N: Net>(
+fn run_output<N: Net>(
     loopback: &Loopback<'_, N>,
     alloc: Global,
     shop: &mut Shop,
@@ -46,7 +46,7 @@ fn written_after<N: Net>(
         output.refused) }
 {
     let lines = run_events(loopback, alloc, shop, events)?;
-    Ok(written_of(alloc, lines.as_slice(), shop.master())?)
+    Ok(run_text(alloc, lines.as_slice(), shop.master())?)
 }
 
 /// What is written for a script whose messages are handed over so. Refuses what the run ends with.
@@ -65,7 +65,7 @@ fn run_over<N: Net>(
     } = script;
     match Shop::new(alloc, master, workers, ticket) {
         Ok(mut shop) => {
-            let written = written_after(loopback, alloc, &mut shop, events.into_vec());
+            let written = run_output(loopback, alloc, &mut shop, events.into_vec());
             drop(shop);
             written
         }
@@ -92,9 +92,9 @@ fn run_script<N: Net>(rt: &N, alloc: Global, script: Script) -> Result<Output, R
 /// The script that is read. Refuses as `Input` what it is refused for, `TooLarge` more bytes than
 /// `MAX_INPUT_BYTES`, and `Memory`; as `Device` `ReadFailed`.
 fn read_script<I: Read>(alloc: Global, reader: &mut Counted<I>) -> Result<Script, Fault>
-    ensures ok { IfOk result (run.IsScript (used I.remaining reader.old reader.new)) }
+    ensures ok { IfOk result (run.IsScript (traffic I.remaining reader.old reader.new)) }
     ensures refused { IfErr result
-        (IsFaultOf IsRefusalOfRunning (used I.remaining reader.old reader.new)) }
+        (IsFaultOf IsRefusalOfRunning (traffic I.remaining reader.old reader.new)) }
 {
     let input = read_input(alloc, reader)?;
     Ok(running_script_of(alloc, input.as_slice())?)
@@ -106,9 +106,9 @@ fn loop_output<N: Net, I: Read>(
     alloc: Global,
     reader: &mut Counted<I>,
 ) -> Result<Output, Fault>
-    ensures ok { IfOk result (λ output. run.IsOutput (used I.remaining reader.old reader.new)
+    ensures ok { IfOk result (λ output. run.IsOutput (traffic I.remaining reader.old reader.new)
         output.text.items output.refused) }
-    ensures refused { IfErr result (run.IsFault (used I.remaining reader.old reader.new)) }
+    ensures refused { IfErr result (run.IsFault (traffic I.remaining reader.old reader.new)) }
 {
     let script = read_script(alloc, reader)?;
     match run_script(rt, alloc, script) {
@@ -131,8 +131,9 @@ pub fn run_loop<N: Net, I: Read, W: Write, F: Write>(
     // status is 1 where a message was too large, else 0; or it tells why the script is refused, or
     // some fault of what it stands on.
     // Proved: `loop` writes nothing where the script is refused or its run is cut off.
-    ensures { run.EndsLoop (used I.remaining reader.old reader.new)
-        (used W.contents writer.old writer.new) (used F.contents faults.old faults.new) result }
+    ensures { run.EndsLoop (traffic I.remaining reader.old reader.new)
+        (traffic W.contents writer.old writer.new)
+        (traffic F.contents faults.old faults.new) result }
 {
     finish(loop_output(rt, alloc, reader), writer, faults)
 }

@@ -13,7 +13,7 @@ use keepers::Keep;
 use std::alloc::{AllocError, Global};
 use std::io::{Read, Write};
 use std::net::{Net, OpenStream};
-use stored_state::{Kept, Stored};
+use stored_state::{Kept, StoredController};
 use streams::{Counted, Refused};
 use ticket_tree::Refusal;
 
@@ -32,7 +32,7 @@ fn ends_run(refused: &Refused) -> bool
 }
 
 /// The refusal with which the run ends, if what a response tells is one.
-fn ending(told: &Option<Refused>) -> Option<Refused>
+fn last_refusal(told: &Option<Refused>) -> Option<Refused>
     ensures none { IfNone result (handing.told_ends_run told.now ≡ false) }
     ensures some { IfSome result (λ e. (told.now ≡ Some e) × (handing.ends_run e ≡ true)) }
 {
@@ -51,7 +51,7 @@ fn ending(told: &Option<Refused>) -> Option<Refused>
 /// Serves one request, and closes the connection behind it. Gives the refusal that the response
 /// tells, if it tells one. Refuses `NoConnection`, `ReadFailed` and `WriteFailed`, and a refusal
 /// that ends the run.
-fn serve<S: Read + Write + OpenStream + Drop, C: Stored, K: Keep>(
+fn serve<S: Read + Write + OpenStream + Drop, C: StoredController, K: Keep>(
     alloc: Global,
     server: S,
     kept: &mut Kept<C, K>,
@@ -67,7 +67,7 @@ fn serve<S: Read + Write + OpenStream + Drop, C: Stored, K: Keep>(
     };
     let mut reader = Counted::new(reader);
     match serve_one(alloc, &mut reader, &mut Counted::new(server), kept, at) {
-        Ok(served) => match ending(&served.refusal) {
+        Ok(served) => match last_refusal(&served.refusal) {
             Some(refused) => Err(refused),
             None => Ok(served.refusal),
         },
@@ -88,7 +88,7 @@ fn some_bytes(alloc: Global, bytes: &[u8]) -> Result<Option<Vec<u8>>, AllocError
 }
 
 /// The body of the response that is read, if it has one. Refuses what `receive` does.
-fn received<S: Read>(alloc: Global, client: &mut S) -> Result<Option<Vec<u8>>, Refused>
+fn response_body<S: Read>(alloc: Global, client: &mut S) -> Result<Option<Vec<u8>>, Refused>
     ensures { IfOk result (λ answer. IfSome (S.remaining client.old)
         (λ all. handing.IsBodyOf all (option_map (λ b. b.items) answer))) }
 {
@@ -100,7 +100,7 @@ fn received<S: Read>(alloc: Global, client: &mut S) -> Result<Option<Vec<u8>>, R
 /// connection of its own. Refuses what the run ends with: `NoConnection`, `ReadFailed`,
 /// `WriteFailed`, what the response is refused for, a receiver whose state can't be saved or
 /// loaded, and `Memory`.
-pub fn hand_over<N: Net, C: Stored, K: Keep>(
+pub fn hand_over<N: Net, C: StoredController, K: Keep>(
     loopback: &Loopback<'_, N>,
     alloc: Global,
     text: &[u8],
@@ -119,6 +119,6 @@ pub fn hand_over<N: Net, C: Stored, K: Keep>(
     let (mut client, server) = loopback.connect()?;
     send(&mut Counted::new(&mut client), text)?;
     let refusal = serve(alloc, server, kept, at)?;
-    let answer = received(alloc, &mut client)?;
+    let answer = response_body(alloc, &mut client)?;
     Ok(Delivery { refusal, answer })
 }

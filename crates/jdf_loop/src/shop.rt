@@ -24,7 +24,7 @@ use master_core::Master;
 use std::alloc::Global;
 use std::marker::Model;
 use std::net::Net;
-use stored_state::{Kept, OrderBytes, Stored};
+use stored_state::{Kept, OrderBytes, StoredController};
 use streams::Refused;
 use ticket_tree::{Duplicate, Id, Ids, Refusal, Ticket};
 use worker_core::Worker;
@@ -55,9 +55,12 @@ impl Model for Shop {
 }
 
 /// A controller beside a new keeper, which holds its state. Refuses `Memory` alone.
-fn kept<C: Stored>(alloc: Global, controller: C) -> Result<Kept<C, MemoryKeep>, Refused>
+fn in_memory<C: StoredController>(
+    alloc: Global,
+    controller: C,
+) -> Result<Kept<C, MemoryKeep>, Refused>
     ensures is { IfOk result (λ kept. kept
-        ≡ shops.kept_as (λ c. compact_text (C.state_data c)) controller) }
+        ≡ shops.in_memory (λ c. compact_text (C.state_data c)) controller) }
     ensures kept { IfOk result
         (shops.IsKeptIn (λ c. compact_text (C.state_data c)) C.state_read) }
 {
@@ -67,11 +70,11 @@ fn kept<C: Stored>(alloc: Global, controller: C) -> Result<Kept<C, MemoryKeep>, 
 /// The worker of a name as it is in the beginning. Refuses `Memory` alone.
 fn new_kept(alloc: Global, master: &Id, name: &Id) -> Result<Kept<Worker, MemoryKeep>, Refused>
     ensures is { IfOk result (λ kept. kept
-        ≡ shops.kept_as shops.worker_state (new_worker master.now name.now)) }
+        ≡ shops.in_memory shops.worker_state (new_worker master.now name.now)) }
     ensures kept { IfOk result (shops.IsKeptIn shops.worker_state worker_state_read) }
 {
     let worker = Worker::new(alloc, name.copy(alloc)?, master.copy(alloc)?)?;
-    kept(alloc, worker)
+    in_memory(alloc, worker)
 }
 
 /// The workers of these names as they are in the beginning. Refuses `Memory` alone.
@@ -81,7 +84,7 @@ fn new_workers(
     names: &[Id],
 ) -> Result<Vec<Kept<Worker, MemoryKeep>>, Refused>
     ensures workers { IfOk result (λ workers. workers.items
-        ≡ map (λ name. shops.kept_as shops.worker_state (new_worker master.now name)) names.now) }
+        ≡ map (λ name. shops.in_memory shops.worker_state (new_worker master.now name)) names.now) }
     ensures kept { IfOk result
         (λ workers. All (shops.IsKeptIn shops.worker_state worker_state_read) workers.items) }
 {
@@ -102,7 +105,7 @@ fn place_of(workers: &[Kept<Worker, MemoryKeep>], name: &Id) -> Option<usize>
 }
 
 /// What is told of an order, whose message is sent.
-fn ordered(messages: &mut SentTexts, given: OrderBytes) -> Result<EventLine, Refused>
+fn line_of_order(messages: &mut SentTexts, given: OrderBytes) -> Result<EventLine, Refused>
     ensures line { IfOk result (λ line. line ≡ Answered (record {
       word = word_of given.reply;
       number = settling.number_of messages.old (option_map (λ b. b.items) given.message);
@@ -119,7 +122,7 @@ fn ordered(messages: &mut SentTexts, given: OrderBytes) -> Result<EventLine, Ref
 }
 
 /// What is told of a message that was handed over, which was taken as this unless it was refused.
-fn handed(reply: Reply, refusal: Option<Refused>, number: Option<u64>) -> EventLine
+fn line_of_handing(reply: Reply, refusal: Option<Refused>, number: Option<u64>) -> EventLine
     ensures { result ≡ event_line.handed_line reply refusal number }
 {
     match refusal {
@@ -136,7 +139,7 @@ fn handed(reply: Reply, refusal: Option<Refused>, number: Option<u64>) -> EventL
 }
 
 /// The same of one whose answer is sent.
-fn delivered(
+fn line_of_delivery(
     messages: &mut SentTexts,
     reply: Reply,
     delivery: Delivery,
@@ -148,7 +151,7 @@ fn delivered(
 {
     let Delivery { refusal, answer } = delivery;
     let number = messages.push(answer)?;
-    Ok(handed(reply, refusal, number))
+    Ok(line_of_handing(reply, refusal, number))
 }
 
 /// What is told of an event at which no controller makes a step.
@@ -165,11 +168,11 @@ impl Shop {
         master: Master,
         workers: Vec<Kept<Worker, MemoryKeep>>,
     ) -> Result<Shop, Refused>
-        ensures is { IfOk result (λ shop. shop ≡ shops.unsent master workers.items) }
+        ensures is { IfOk result (λ shop. shop ≡ shops.quiet_state master workers.items) }
         ensures kept { All (shops.IsKeptIn shops.worker_state worker_state_read) workers.items
             → IfOk result shops.AreKept }
     {
-        match kept(alloc, master) {
+        match in_memory(alloc, master) {
             Ok(master) => Ok(Shop {
                 master,
                 workers,
@@ -220,7 +223,7 @@ impl Shop {
         ensures { IfOk result (shops.OrdersMaster order at self.old self.new) }
     {
         let given = self.master.order(alloc, order, at)?;
-        ordered(&mut self.messages, given)
+        line_of_order(&mut self.messages, given)
     }
 
     /// The worker of a name is told to do something.
@@ -240,7 +243,7 @@ impl Shop {
             }
             Some(place) => {
                 let given = self.workers[place].order(alloc, order, at)?;
-                ordered(&mut self.messages, given)
+                line_of_order(&mut self.messages, given)
             }
         }
     }
@@ -258,7 +261,7 @@ impl Shop {
     {
         let taken = self.master.controller().taken_as(&message.body);
         let delivery = hand_over(loopback, alloc, text, &mut self.master, at)?;
-        delivered(&mut self.messages, taken.reply, delivery)
+        line_of_delivery(&mut self.messages, taken.reply, delivery)
     }
 
     /// A message is handed over to the worker that it is for, if there is one.
@@ -278,7 +281,7 @@ impl Shop {
                 let worker = &mut self.workers[place];
                 let taken = worker.controller().taken_as(&message.body);
                 let delivery = hand_over(loopback, alloc, text, worker, at)?;
-                delivered(&mut self.messages, taken.reply, delivery)
+                line_of_delivery(&mut self.messages, taken.reply, delivery)
             }
         }
     }

@@ -49,7 +49,7 @@ fn has_too_large(lines: &[EventLine]) -> bool
 
 /// What is written of a run: a line for each event, and the text of the ticket that the master
 /// shows at the end. Refuses `Memory` alone.
-pub fn written_of(alloc: Global, lines: &[EventLine], master: &Master) -> Result<Output, Refusal>
+pub fn run_text(alloc: Global, lines: &[EventLine], master: &Master) -> Result<Output, Refusal>
     ensures ok { IfOk result
         (λ output. IsWritten lines.now master.now output.text.items output.refused) }
     ensures memory { IfErr result (λ e. e ≡ Memory) }

@@ -3,11 +3,11 @@ use Rattle.std.proofs.Common.{◌≡◌, ℕ, refl}
 use Rattle.jdf_commands.specs.Calls.{EndsCall}
 use Rattle.jdf_words.specs.declared.call.Call.{Call}
 use Rattle.jdf_words.specs.declared.call.Call.TheVariants.{Check, Edit, Explain, World, Loop, New, Order, SendOrder, Take, Show, Serve, Send, Listing}
-use Rattle.streams.specs.Streams.{Use}
+use Rattle.streams.specs.Streams.{Traffic}
 use Rattle.jdf_net.specs.Words.{EndsAnyCall}
 
 -- a call that is none over the network ends as it does over files
-pub over_files : (call : Call) (input output told : Use) (status : ℕ) → (call ≡ Loop → ⊥)
+pub over_files : (call : Call) (input output told : Traffic) (status : ℕ) → (call ≡ Loop → ⊥)
     → ((file : _) (at : _) (url : _) → call ≡ SendOrder file at url → ⊥)
     → ((file : _) (listen : _) (limits : _) (requests : _) (peers : _) (field : _) → call ≡ Serve file listen limits requests peers field → ⊥)
     → ((url : _) (file : _) → call ≡ Send url file → ⊥) → EndsCall call input output told status → EndsAnyCall call input output told status

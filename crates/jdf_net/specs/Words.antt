@@ -8,7 +8,7 @@ use Rattle.ticket_items.specs.declared.refusal.Refusal.TheVariants.{Memory}
 use Rattle.streams.specs.declared.refused.Refused.TheVariants.{Core, ReadFailed, SaveFailed}
 use Rattle.streams.specs.declared.fault.Fault.TheVariants.{Device, Input}
 use Rattle.streams.specs.Ends.{GivesOut, GivesUp}
-use Rattle.streams.specs.Streams.{IsUntouched, Stream, Use}
+use Rattle.streams.specs.Streams.{IsUntouched, Stream, Traffic}
 use Rattle.jdf_words.specs.Calls.{IsEdit, IsInvocation, is_asked}
 use Rattle.jdf_words.specs.Commands.{jdf}
 use Rattle.jdf_words.specs.declared.call.Call.{Call}
@@ -24,7 +24,7 @@ use Rattle.jdf_net.specs.ServeCommand.{EndsServe}
 use Rattle.jdf_net.specs.declared.words.TheConstants.{NO_CALL}
 
 -- how a call ends, over the network or over files
-abbrev pub EndsAnyCall : Call → Use → Use → Use → ℕ → Type 0
+abbrev pub EndsAnyCall : Call → Traffic → Traffic → Traffic → ℕ → Type 0
 EndsAnyCall Loop input output told status = EndsLoop input output told status
 EndsAnyCall (SendOrder file at url) input output told status =
     EndsSendOrder file at url.now input output told status
@@ -33,20 +33,20 @@ EndsAnyCall (Send url file) input output told status = EndsSend input output tol
 EndsAnyCall call input output told status = EndsCall call input output told status
 
 -- a call ends so, and behind all that it tells something may be told
-abbrev pub EndsTelling : Call → Use → Use → Use → ℕ → Type 0
+abbrev pub EndsTelling : Call → Traffic → Traffic → Traffic → ℕ → Type 0
 EndsTelling call input output told status =
     (tells : Stream)
     × EndsAnyCall call input output (record { before = told.before; after = tells }) status
 
 -- how a call with a journal ends: that can't be opened, which is told, and nothing is read; or as the
 -- call does, and behind all else it may be told that lines aren't in it
-abbrev pub EndsWithJournal : Call → Use → Use → Use → ℕ → Type 0
+abbrev pub EndsWithJournal : Call → Traffic → Traffic → Traffic → ℕ → Type 0
 EndsWithJournal call input output told status =
     (IsUntouched input × GivesUpCaused (Device SaveFailed) output told status)
     ⊎ EndsTelling call input output told status
 
 -- the same where the path of a journal is named, and else as the call does
-abbrev pub EndsJournaled : Option (List ℕ) → Call → Use → Use → Use → ℕ → Type 0
+abbrev pub EndsJournaled : Option (List ℕ) → Call → Traffic → Traffic → Traffic → ℕ → Type 0
 EndsJournaled None call input output told status = EndsAnyCall call input output told status
 EndsJournaled (Some path) call input output told status =
     EndsWithJournal call input output told status
@@ -58,14 +58,14 @@ pub record AreWordsOf (words : List (String Global)) (i : Invocation) : Type 0 w
 
 -- clap's text, of which nothing is said here, is written where it is what is asked for, with status
 -- 0; or else nothing is written, the text is told, and the status says that there is no call
-abbrev pub EndsAnswer : Bool → Use → Use → ℕ → Type 0
+abbrev pub EndsAnswer : Bool → Traffic → Traffic → ℕ → Type 0
 EndsAnswer true output told status =
     ((text : List ℕ) × GivesOut text false output told status)
     ⊎ GivesUp (Input (Core Memory)) output told status
 EndsAnswer false output told status = IsUntouched output × (status ≡ NO_CALL)
 
 -- these words stand for no call: nothing is read, and clap answers them with a text of this kind
-pub record IsAnswered (words : List (String Global)) (input output told : Use) (status : ℕ)
+pub record IsAnswered (words : List (String Global)) (input output told : Traffic) (status : ℕ)
     : Type 0 where
   pub some : words ≢ []
   pub wrong : takes jdf (map string_bytes words) ≢ true
@@ -81,27 +81,27 @@ IsFresh s = (s.calls ≡ 0) × (s.failures ≡ 0) × (s.interruptions ≡ 0)
 -- how a call, with the journal that is named, ends whose input comes from a file: as it ends over
 -- that, of which nothing was read before; or the file can't be opened, which is told, and nothing is
 -- done
-abbrev pub EndsFromFile : Option (List ℕ) → Call → Use → Use → ℕ → Type 0
+abbrev pub EndsFromFile : Option (List ℕ) → Call → Traffic → Traffic → ℕ → Type 0
 EndsFromFile journal call output told status =
-    ((file : Use) × IsFresh file.before × EndsJournaled journal call file output told status)
+    ((file : Traffic) × IsFresh file.before × EndsJournaled journal call file output told status)
     ⊎ GivesUpCaused (Device ReadFailed) output told status
 
 -- how a call ends whose input comes from this file, and not from standard input, where one is named
-abbrev pub EndsFrom : (from journal : Option (List ℕ)) → Call → Use → Use → Use → ℕ → Type 0
+abbrev pub EndsFrom : (from journal : Option (List ℕ)) → Call → Traffic → Traffic → Traffic → ℕ → Type 0
 EndsFrom None journal call input output told status =
     EndsJournaled journal call input output told status
 EndsFrom (Some path) journal call input output told status =
     IsUntouched input × EndsFromFile journal call output told status
 
 -- the same of what words stand for
-abbrev pub EndsInvocation : Invocation → Use → Use → Use → ℕ → Type 0
+abbrev pub EndsInvocation : Invocation → Traffic → Traffic → Traffic → ℕ → Type 0
 EndsInvocation i input output told status =
     EndsFrom (file_of (option_map (λ path. path.now) i.from)) (option_map (λ path. path.now) i.journal)
     i.call input output told status
 
 -- the call of the words is run; or they stand for none, and are answered; or memory ran out for
 -- reading them
-abbrev pub EndsWords : List (String Global) → Use → Use → Use → ℕ → Type 0
+abbrev pub EndsWords : List (String Global) → Traffic → Traffic → Traffic → ℕ → Type 0
 EndsWords words input output told status =
     ((i : Invocation) × AreWordsOf words i × EndsInvocation i input output told status)
     ⊎ (IsAnswered words input output told status

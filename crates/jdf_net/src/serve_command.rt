@@ -4,7 +4,7 @@ ghost use Rattle.std.specs.Prelude.{◌≡◌, ◌⊎◌, IfErr};
 ghost use Rattle.jdf_net.specs.ServeCommand.{EndsServe, IsUnserved};
 ghost use Rattle.streams.specs.declared.refused.Refused.TheVariants.{NoConnection, WriteFailed};
 
-use jdf_commands::{Caused, give_up_caused};
+use jdf_commands::{CausedFault, give_up_caused};
 use jdf_server::{Post, Server, Service, check_file};
 use keepers::Locks;
 use mio::net::TcpListener;
@@ -57,14 +57,14 @@ fn announce_page<W: Write>(listener: &TcpListener, writer: &mut W) -> Result<(),
 }
 
 /// Why it can't listen on an address.
-fn unheard(alloc: Global, address: &str, error: &io::Error) -> Caused
+fn listen_fault(alloc: Global, address: &str, error: &io::Error) -> CausedFault
     ensures { IsUnserved result.fault }
 {
     match error.kind() {
-        ErrorKind::OutOfMemory => Caused::bare(Fault::from(AllocError)),
+        ErrorKind::OutOfMemory => CausedFault::without_cause(Fault::from(AllocError)),
         _ => {
             let fault = Fault::Device(Refused::NoConnection);
-            Caused::of_error(alloc, fault, address, error)
+            CausedFault::of_error(alloc, fault, address, error)
         }
     }
 }
@@ -108,7 +108,7 @@ fn post_of<R: Files>(
     alloc: Global,
     service: &Service<'_>,
     place: &Place<'_>,
-) -> Result<Option<Post>, Caused>
+) -> Result<Option<Post>, CausedFault>
     ensures { IfErr result (λ caused. IsUnserved caused.fault) }
 {
     let Some(file) = peers_path(rt, alloc, service, place)? else {
@@ -119,7 +119,7 @@ fn post_of<R: Files>(
         Ok(post) => Ok(Some(post)),
         Err(refused) => {
             let fault = Fault::Device(refused);
-            Err(Caused::at_path(rt, alloc, fault, file.as_str(), NO_PEERS))
+            Err(CausedFault::at_path(rt, alloc, fault, file.as_str(), NO_PEERS))
         }
     }
 }
@@ -140,21 +140,21 @@ fn begin_page<R: Files + Net, F, W: Write>(
     server: &mut Server<'_, R, F>,
     address: &str,
     writer: &mut W,
-) -> Result<(), Caused>
+) -> Result<(), CausedFault>
     ensures { IfErr result (λ caused. IsUnserved caused.fault) }
 {
     let address = with_host(alloc, address)?;
     let address = address.as_str();
     let listener = match listen(rt, address) {
         Ok(listener) => listener,
-        Err(error) => return Err(unheard(alloc, address, &error)),
+        Err(error) => return Err(listen_fault(alloc, address, &error)),
     };
     if let Err(refused) = announce_page(&listener, writer) {
-        return Err(Caused::bare(Fault::Device(refused)));
+        return Err(CausedFault::without_cause(Fault::Device(refused)));
     }
     match server.open_page(listener) {
         Ok(()) => Ok(()),
-        Err(error) => Err(unheard(alloc, address, &error)),
+        Err(error) => Err(listen_fault(alloc, address, &error)),
     }
 }
 
@@ -164,14 +164,14 @@ fn begin_orders<R: Files + Net, F, W: Write>(
     server: &mut Server<'_, R, F>,
     path: &str,
     writer: &mut W,
-) -> Result<(), Caused>
+) -> Result<(), CausedFault>
     ensures { IfErr result (λ caused. IsUnserved caused.fault) }
 {
     if let Err(error) = server.open_orders(path) {
-        return Err(unheard(alloc, path, &error));
+        return Err(listen_fault(alloc, path, &error));
     }
     if writeln!(writer, "Orders at {path}").is_err() || writer.flush().is_err() {
-        return Err(Caused::bare(Fault::Device(Refused::WriteFailed)));
+        return Err(CausedFault::without_cause(Fault::Device(Refused::WriteFailed)));
     }
     Ok(())
 }
@@ -185,12 +185,12 @@ fn begin<R: Files + Net, F, W: Write>(
     service: &Service<'_>,
     place: &Place<'_>,
     writer: &mut W,
-) -> Result<(), Caused>
+) -> Result<(), CausedFault>
     ensures { IfErr result (λ caused. IsUnserved caused.fault) }
 {
     server.send_by(post_of(rt, alloc, service, place)?);
     if let Err(refused) = announce(server.listens_at(), writer) {
-        return Err(Caused::bare(Fault::Device(refused)));
+        return Err(CausedFault::without_cause(Fault::Device(refused)));
     }
     if let Some(address) = service.page {
         begin_page(rt, alloc, server, address, writer)?;
@@ -209,7 +209,7 @@ fn serve_with<R: Locks + Net + Clock + Alloc + Clone + Drop, F: Write + Drop, W:
     service: &Service<'_>,
     place: &Place<'_>,
     writer: &mut W,
-) -> Result<(), Caused>
+) -> Result<(), CausedFault>
     ensures { IfErr result (λ caused. IsUnserved caused.fault) }
 {
     begin(rt, alloc, &mut server, service, place, writer)?;
@@ -224,21 +224,21 @@ fn serve<R: Locks + Net + Clock + Alloc + Clone + Drop, W: Write, F: Write>(
     service: &Service<'_>,
     writer: &mut W,
     faults: &mut F,
-) -> Result<(), Caused>
+) -> Result<(), CausedFault>
     ensures { IfErr result (λ caused. IsUnserved caused.fault) }
 {
     let place = Place::at(rt, service.path);
     if let Err(refused) = check(rt, alloc, &place) {
         let fault = Fault::Device(refused);
-        return Err(Caused::at_path(rt, alloc, fault, service.path, ""));
+        return Err(CausedFault::at_path(rt, alloc, fault, service.path, ""));
     }
     let listener = match listen(rt, service.listen) {
         Ok(listener) => listener,
-        Err(error) => return Err(unheard(alloc, service.listen, &error)),
+        Err(error) => return Err(listen_fault(alloc, service.listen, &error)),
     };
     match Server::new(rt, alloc, service, place, listener, &mut *faults) {
         Ok(server) => serve_with(rt, alloc, server, service, &place, writer),
-        Err(error) => Err(unheard(alloc, service.listen, &error)),
+        Err(error) => Err(listen_fault(alloc, service.listen, &error)),
     }
 }
 

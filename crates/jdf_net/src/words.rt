@@ -9,10 +9,10 @@ ghost use Rattle.jdf_words.specs.Calls as calls;
 ghost use Rattle.jdf_send.specs.InputFile.{file_of as file_in};
 ghost use Rattle.jdf_net.specs.Words.{EndsAnswer, EndsAnyCall, EndsFrom, EndsFromFile, EndsJournaled};
 ghost use Rattle.jdf_net.specs.Words.{EndsWithJournal, EndsWords};
-ghost use Rattle.streams.specs.Streams.{used};
+ghost use Rattle.streams.specs.Streams.{traffic};
 
 use crate::serve_command::run_serve;
-use jdf_commands::{Caused, give_up_caused, run_file};
+use jdf_commands::{CausedFault, give_up_caused, run_file};
 use jdf_loop::run_loop;
 use jdf_send::{SendOrder, file_of, open_input, run_send, run_send_order};
 use jdf_server::Service;
@@ -59,7 +59,8 @@ fn answer_words<W: Write, F: Write>(
     faults: &mut Counted<F>,
 ) -> u8
     ensures { EndsAnswer (calls.is_asked (map string_bytes words.now) (kind_of answer.now))
-        (used W.contents writer.old writer.new) (used F.contents faults.old faults.new) result }
+        (traffic W.contents writer.old writer.new)
+        (traffic F.contents faults.old faults.new) result }
 {
     if is_asked(words, answer) {
         finish(answer_output(alloc, answer), writer, faults)
@@ -79,8 +80,9 @@ fn run_call<R: Locks + Net + Clock + Alloc + Clone + Drop, I: Read, W: Write, F:
     faults: &mut Counted<F>,
     journal: &mut FileJournal<'_, R>,
 ) -> u8
-    ensures { EndsAnyCall asked.now.call (used I.remaining reader.old reader.new)
-        (used W.contents writer.old writer.new) (used F.contents faults.old faults.new) result }
+    ensures { EndsAnyCall asked.now.call (traffic I.remaining reader.old reader.new)
+        (traffic W.contents writer.old writer.new)
+        (traffic F.contents faults.old faults.new) result }
 {
     match &asked.call {
         Call::Loop => run_loop(rt, alloc, reader, writer, faults),
@@ -141,13 +143,18 @@ fn run_with_journal<R: Locks + Net + Clock + Alloc + Clone + Drop, I: Read, W: W
     writer: &mut Counted<W>,
     faults: &mut Counted<F>,
 ) -> u8
-    ensures { EndsWithJournal asked.now.call (used I.remaining reader.old reader.new)
-        (used W.contents writer.old writer.new) (used F.contents faults.old faults.new) result }
+    ensures { EndsWithJournal asked.now.call (traffic I.remaining reader.old reader.new)
+        (traffic W.contents writer.old writer.new)
+        (traffic F.contents faults.old faults.new) result }
 {
     let mut journal = FileJournal::at(rt, Some(path));
     if let Err(error) = journal.check() {
         let fault = Fault::Device(Refused::SaveFailed);
-        return give_up_caused(alloc, Caused::of_error(alloc, fault, path, &error), faults);
+        return give_up_caused(
+            alloc,
+            CausedFault::of_error(alloc, fault, path, &error),
+            faults,
+        );
     }
     let status = run_call(rt, alloc, asked, reader, writer, faults, &mut journal);
     tell_missed(alloc, &journal, faults);
@@ -164,8 +171,8 @@ fn run_journaled<R: Locks + Net + Clock + Alloc + Clone + Drop, I: Read, W: Writ
     faults: &mut Counted<F>,
 ) -> u8
     ensures { EndsJournaled (option_map (λ name. name.now) asked.now.journal) asked.now.call
-        (used I.remaining reader.old reader.new) (used W.contents writer.old writer.new)
-        (used F.contents faults.old faults.new) result }
+        (traffic I.remaining reader.old reader.new) (traffic W.contents writer.old writer.new)
+        (traffic F.contents faults.old faults.new) result }
 {
     match asked.journal {
         None => {
@@ -187,8 +194,8 @@ fn run_from<R: Locks + Net + Clock + Alloc + Clone + Drop, W: Write, F: Write>(
     faults: &mut Counted<F>,
 ) -> u8
     ensures { EndsFromFile (option_map (λ name. name.now) invocation.now.journal)
-        invocation.now.call (used W.contents writer.old writer.new)
-        (used F.contents faults.old faults.new) result }
+        invocation.now.call (traffic W.contents writer.old writer.new)
+        (traffic F.contents faults.old faults.new) result }
 {
     match open_input(rt, alloc, path) {
         Ok(file) => {
@@ -210,8 +217,9 @@ fn run_invocation<R: Locks + Net + Clock + Alloc + Clone + Drop, I: Read, W: Wri
 ) -> u8
     ensures { EndsFrom (file_in (option_map (λ path. path.now) invocation.now.from))
         (option_map (λ path. path.now) invocation.now.journal)
-        invocation.now.call (used I.remaining reader.old reader.new)
-        (used W.contents writer.old writer.new) (used F.contents faults.old faults.new) result }
+        invocation.now.call (traffic I.remaining reader.old reader.new)
+        (traffic W.contents writer.old writer.new)
+        (traffic F.contents faults.old faults.new) result }
 {
     match file_of(invocation.from) {
         Some(path) => run_from(rt, alloc, invocation, path, writer, faults),
@@ -238,8 +246,9 @@ pub fn run_words<R: Locks + Net + Clock + Alloc + Clone + Drop, I: Read, W: Writ
     // words that it doesn't take, help among them, stand for none. Of these the version, and help
     // that the first word asks for, are written, with status 0; the others are told to stand for
     // none, with status 2.
-    ensures { EndsWords words.now (used I.remaining reader.old reader.new)
-        (used W.contents writer.old writer.new) (used F.contents faults.old faults.new) result }
+    ensures { EndsWords words.now (traffic I.remaining reader.old reader.new)
+        (traffic W.contents writer.old writer.new)
+        (traffic F.contents faults.old faults.new) result }
 {
     match command_of(alloc, words) {
         Ok(invocation) => run_invocation(rt, alloc, &invocation, reader, writer, faults),

@@ -10,17 +10,18 @@ use Rattle.jmf_message.specs.Decoded.{IsDecodedAs}
 use Rattle.keepers.specs.InFile.{InFile}
 use Rattle.keepers.specs.OnDisk.{OnDisk}
 use Rattle.stored_state.specs.AnyStep.{IsHanded, IsNoOrder, IsOrdered}
-use Rattle.stored_state.specs.Held.{Held}
+use Rattle.stored_state.specs.Held.{KeptState}
 use Rattle.stored_state.specs.declared.any_controller.AnyController.{AnyController}
 use Rattle.streams.specs.Ends.{GivesOut, GivesUp}
-use Rattle.streams.specs.Streams.{IsUntouched, Stream, Use}
+use Rattle.streams.specs.Streams.{IsUntouched, Stream, Traffic}
 use Rattle.streams.specs.declared.fault.Fault.{Fault}
 use Rattle.streams.specs.declared.fault.Fault.TheVariants.{Input}
 use Rattle.streams.specs.declared.refused.Refused.TheVariants.{Core}
 use Rattle.jdf_send.specs.SendCommand.{IsNoPlace}
-use Rattle.jdf_send.specs.declared.order_command.run.Came.{Came}
-use Rattle.jdf_send.specs.declared.order_command.run.Came.TheVariants.{Answered, NoPeer, Refused}
-use Rattle.jdf_commands.specs.Calls.{DoesNone, held, is_honest, kept_in, place}
+use Rattle.jdf_send.specs.declared.order_command.run.OrderResult.{Came}
+use Rattle.jdf_send.specs.declared.order_command.run.OrderResult.TheVariants.{Answered, NoPeer}
+use Rattle.jdf_send.specs.declared.order_command.run.OrderResult.TheVariants.{Refused}
+use Rattle.jdf_commands.specs.Calls.{DoesNone, file_bytes, is_honest, keep_in_file, place}
 use Rattle.jdf_commands.specs.Caused.{EndsWithCaused, GivesUpCaused}
 use Rattle.jdf_commands.specs.FileCommands.Answers.{IsOfAnswer}
 use Rattle.jdf_commands.specs.FileCommands.Commands.{GivesHeld, GivesNoting, GivesStepOf}
@@ -29,7 +30,7 @@ use Rattle.jdf_commands.specs.FileCommands.Step.{is_refused, reply_line, step_li
 
 -- an end: what was written and told until then, and the exit status
 abbrev pub Ending : Type 1
-Ending = Use → Use → ℕ → Type 0
+Ending = Traffic → Traffic → ℕ → Type 0
 
 -- one end behind another, which had status 0
 abbrev pub Behind : Ending → Ending → Ending
@@ -51,8 +52,8 @@ pub record TakesAnswer (file : Bor (List ℕ)) (at : ℕ) (answer text : List �
     : Type 0 where
   pub reply : Result Reply Refusal
   pub sent : Option (List ℕ)
-  pub after : Held AnyController (InFile OnDisk)
-  pub given : GivesHeld is_honest held place (IsHanded at) answer (kept_in file.now) after reply sent
+  pub after : KeptState AnyController (InFile OnDisk)
+  pub given : GivesHeld is_honest file_bytes place (IsHanded at) answer (keep_in_file file.now) after reply sent
   pub message : Message
   pub decoded : IsDecodedAs answer (Ok message)
   pub written : IsOfAnswer message reply sent text refused
@@ -100,24 +101,24 @@ GivesOrder file at reply (Some message) notes output told status =
     GivesOn file at reply output told status
 
 -- the order's step is saved, and given out so
-abbrev pub OrdersAndSends : Bor (List ℕ) → ℕ → Use → Ending
+abbrev pub OrdersAndSends : Bor (List ℕ) → ℕ → Traffic → Ending
 OrdersAndSends file at input output told status =
     (reply : Result Reply Refusal) × (sent : Option (List ℕ)) × (notes : List ℕ)
     × GivesNoting
-    (λ after. GivesStepOf is_honest held place (IsOrdered at) (kept_in file.now) input after reply
+    (λ after. GivesStepOf is_honest file_bytes place (IsOrdered at) (keep_in_file file.now) input after reply
     sent)
     (notes_of_order reply) notes
     × GivesOrder file at reply sent notes output told status
 
 -- the text is no URL to send to, or that isn't known, and nothing is read or written
-abbrev pub IsNowhere : List ℕ → Use → Ending
+abbrev pub IsNowhere : List ℕ → Traffic → Ending
 IsNowhere url input output told status =
     IsUntouched input
     × ((IsUntouched output × (status ≡ 2))
     ⊎ ((fault : Fault) × IsNoPlace url fault × GivesUpCaused fault output told status))
 
 -- the order is given, or it isn't, for this
-abbrev pub Orders : Bor (List ℕ) → ℕ → List ℕ → Use → Ending
+abbrev pub Orders : Bor (List ℕ) → ℕ → List ℕ → Traffic → Ending
 Orders file at url input output told status =
     OrdersAndSends file at input output told status
     ⊎ (((fault : Fault) × DoesNone IsNoOrder (IsOrdered at) file.now input fault
@@ -125,7 +126,7 @@ Orders file at url input output told status =
     ⊎ IsNowhere url input output told status)
 
 -- the same, and the status is that of `order`, `send` or `take`
-pub record EndsSendOrder (file : Bor (List ℕ)) (at : ℕ) (url : List ℕ) (input output told : Use)
+pub record EndsSendOrder (file : Bor (List ℕ)) (at : ℕ) (url : List ℕ) (input output told : Traffic)
     (status : ℕ) : Type 0 where
   pub given : Orders file at url input output told status
   pub known : status ≤ 4

@@ -9,7 +9,7 @@ use Rattle.controller.specs.declared.message.Message.{Message}
 use Rattle.jmf_message.specs.Decoded.{IsDecodedAs, IsRefusalOf}
 use Rattle.streams.specs.Ends.{GivesOut, GivesUp, Tells}
 use Rattle.streams.specs.Fault.{fault_status}
-use Rattle.streams.specs.Streams.{IsUntouched, Stream, Use}
+use Rattle.streams.specs.Streams.{IsUntouched, Stream, Traffic}
 use Rattle.streams.specs.declared.refused.Refused.{Refused}
 use Rattle.streams.specs.declared.refused.Refused.TheVariants.{Core, LoadFailed}
 use Rattle.streams.specs.declared.fault.Fault.{Fault}
@@ -86,13 +86,13 @@ IsUntold answer fault =
     ⊎ ((e : Refusal) × (fault ≡ Input (Core e)) × IsRefusalOf answer e)
 
 -- how that is told, and with which status
-abbrev pub TellsRefusal : Result (Option (String Global)) Fault → Use → ℕ → Type 0
+abbrev pub TellsRefusal : Result (Option (String Global)) Fault → Traffic → ℕ → Type 0
 TellsRefusal (Ok None) told status = IsUntouched told × (status ≡ 0)
 TellsRefusal (Ok (Some line)) told status = TellsNotes (string_bytes line) told × (status ≡ 1)
 TellsRefusal (Err fault) told status = Tells fault told × (status ≡ fault_status fault)
 
 -- it is told of this answer
-abbrev pub TellsOfAnswer : List ℕ → Use → ℕ → Type 0
+abbrev pub TellsOfAnswer : List ℕ → Traffic → ℕ → Type 0
 TellsOfAnswer answer told status =
     (refusal : Result (Option (String Global)) Fault)
     × MatchResult refusal (IsRefusalIn answer) (IsUntold answer)
@@ -101,13 +101,13 @@ TellsOfAnswer answer told status =
 -- ---- how it ends
 
 -- the line of the answer is given out, or there is no memory for it
-abbrev pub GivesAnswer : List ℕ → Use → Use → ℕ → Type 0
+abbrev pub GivesAnswer : List ℕ → Traffic → Traffic → ℕ → Type 0
 GivesAnswer answer output told status =
     GivesOut (answer_line answer) false output told status
     ⊎ GivesUp (Input (Core Memory)) output told status
 
 -- that wasn't done; or it was, and behind it is told whether the answer refuses
-abbrev pub EndsAnswer : List ℕ → Use → Use → ℕ → Type 0
+abbrev pub EndsAnswer : List ℕ → Traffic → Traffic → ℕ → Type 0
 EndsAnswer answer output told status =
     (GivesAnswer answer output told status × (status ≢ 0))
     ⊎ ((tells : Stream)
@@ -116,7 +116,7 @@ EndsAnswer answer output told status =
 
 -- an answer came, and that is given out; or another status was told, or that the receiver has no
 -- URL, and nothing was written; or the URL is none, and nothing was read or written; or it gave up
-abbrev pub EndsSend : Use → Use → Use → ℕ → Type 0
+abbrev pub EndsSend : Traffic → Traffic → Traffic → ℕ → Type 0
 EndsSend input output told status =
     ((answer : List ℕ) × EndsAnswer answer output told status)
     ⊎ ((IsUntouched output × (status ≡ 1))

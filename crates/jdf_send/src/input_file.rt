@@ -6,7 +6,7 @@ ghost use Rattle.streams.specs.declared.refused.Refused.TheVariants.{ReadFailed}
 ghost use Rattle.streams.specs.declared.fault.Fault.TheVariants.{Device};
 ghost use Rattle.jdf_send.specs.InputFile as input_file;
 
-use jdf_commands::Caused;
+use jdf_commands::CausedFault;
 use std::alloc::Global;
 use std::rt::Files;
 use std::{fs, io};
@@ -34,7 +34,7 @@ pub fn file_of(path: Option<&str>) -> Option<&str>
 }
 
 /// The file of a path, open. A folder, which can't be read, isn't opened.
-fn opened<R: Files>(rt: &R, path: &str) -> io::Result<R::File> {
+fn open_input_file<R: Files>(rt: &R, path: &str) -> io::Result<R::File> {
     if fs::metadata(rt, path)?.is_dir() {
         return Err(io::Error::other("it is a folder"));
     }
@@ -42,14 +42,14 @@ fn opened<R: Files>(rt: &R, path: &str) -> io::Result<R::File> {
 }
 
 /// The file of a path, open. Refuses `ReadFailed` with what the system says of the path.
-pub fn open_input<R: Files>(rt: &R, alloc: Global, path: &str) -> Result<R::File, Caused>
+pub fn open_input<R: Files>(rt: &R, alloc: Global, path: &str) -> Result<R::File, CausedFault>
     ensures { IfErr result (λ caused. caused.fault ≡ Device ReadFailed) }
 {
-    match opened(rt, path) {
+    match open_input_file(rt, path) {
         Ok(file) => Ok(file),
         Err(error) => {
             let fault = Fault::Device(Refused::ReadFailed);
-            Err(Caused::of_error(alloc, fault, path, &error))
+            Err(CausedFault::of_error(alloc, fault, path, &error))
         }
     }
 }

@@ -9,7 +9,7 @@ use Rattle.std.specs.Option.{option_map}
 use Rattle.jdf_server.specs.Clients.{Changes, InTurn, IsGivenBack, IsPutBack, with_client, with_note}
 use Rattle.jdf_server.specs.declared.entry.Entry.{Entry}
 use Rattle.peers.specs.Client.{Connection}
-use Rattle.rounds.specs.declared.answered.Answered.{Answered}
+use Rattle.rounds.specs.declared.answered.AnsweredClient.{AnsweredClient}
 
 -- what is so anyway is so of an `Ok`
 pub on_ok : {T E P : Type 0} (r : Result T E) → P → OnOk r P
@@ -43,13 +43,13 @@ let_go_after change key old mid new one two =
 -- ---- a client who was answered
 
 -- it is put back behind its note
-pub back_with : (path : Option (String Global)) (a : Answered TcpStream) (c : Connection TcpStream) (old before mid new : Slab Entry) → before ≡ old → a.client ≡ Some c → Changes (with_note path a.told a.taken) a.key before mid → Changes (with_client c) a.key mid new → IsGivenBack (option_map string_bytes path) a old new
+pub back_with : (path : Option (String Global)) (a : AnsweredClient TcpStream) (c : Connection TcpStream) (old before mid new : Slab Entry) → before ≡ old → a.client ≡ Some c → Changes (with_note path a.told a.taken) a.key before mid → Changes (with_client c) a.key mid new → IsGivenBack (option_map string_bytes path) a old new
 back_with path a c old before mid new same is noted put =
     let both = changes_after (with_note path a.told a.taken) (with_client c) a.key before mid new noted put in
     (path, refl, subst (λ found. IsPutBack found path a old new) (sym is) (subst (λ clients. Changes (λ e. with_client c (with_note path a.told a.taken e)) a.key clients new) same both))
 
 -- it is let go behind its note
-pub back_without : (path : Option (String Global)) (a : Answered TcpStream) (old before mid new : Slab Entry) → before ≡ old → a.client ≡ None → Changes (with_note path a.told a.taken) a.key before mid → Updates mid new a.key None → IsGivenBack (option_map string_bytes path) a old new
+pub back_without : (path : Option (String Global)) (a : AnsweredClient TcpStream) (old before mid new : Slab Entry) → before ≡ old → a.client ≡ None → Changes (with_note path a.told a.taken) a.key before mid → Updates mid new a.key None → IsGivenBack (option_map string_bytes path) a old new
 back_without path a old before mid new same is noted gone =
     let both = let_go_after (with_note path a.told a.taken) a.key before mid new noted gone in
     (path, refl, subst (λ found. IsPutBack found path a old new) (sym is) (subst (λ clients. Updates clients new a.key None) same both))

@@ -4,21 +4,21 @@ use Rattle.journal.specs.Journal.{IsAppended, IsMissed, Misses}
 use Rattle.std.proofs.lemmas.Bool.Decides.{nat_tests}
 use Rattle.std.proofs.lemmas.List.{flat_map_more, map_more, map_push, nil_from_length}
 use Rattle.std.specs.List.{flat_map, zip}
-use Rattle.rounds.specs.declared.taken_from.TakenFrom.{TakenFrom}
+use Rattle.rounds.specs.declared.receipt.Receipt.{Receipt}
 use Rattle.stored_state.specs.declared.coming.Coming.{Coming}
-use Rattle.jdf_server.specs.Journaled.{AreJournaled, Called, called, kept, line_for, lines_for}
+use Rattle.jdf_server.specs.Journaled.{AreJournaled, StepName, called_of_coming, line_for, lines_for, step_of_call}
 use Rattle.jdf_server.specs.declared.journaling.Call.{Call}
 
 -- ---- what steps are made of
 
 -- one more
 pub one_call : {X : Type 0} (of : X → Coming) (xs : List X) (i : ℕ) (x : X) (calls after : List (Option Call)) (one : Option Call)
-    → i < length xs → x ≡ get_or xs i x → map kept calls ≡ map (λ y. called (of y)) (take i xs) → kept one ≡ called (of x) → after ≡ calls ++ one ∷ []
-    → map kept after ≡ map (λ y. called (of y)) (take (i + 1) xs)
+    → i < length xs → x ≡ get_or xs i x → map step_of_call calls ≡ map (λ y. called_of_coming (of y)) (take i xs) → step_of_call one ≡ called_of_coming (of x) → after ≡ calls ++ one ∷ []
+    → map step_of_call after ≡ map (λ y. called_of_coming (of y)) (take (i + 1) xs)
 one_call of xs i x calls after one within is so made pushed =
-    ap (map kept) pushed ∙ map_push kept calls one ∙ ap (λ cs. cs ++ kept one ∷ []) so
-    ∙ ap (λ c. map (λ y. called (of y)) (take i xs) ++ c ∷ []) (made ∙ ap (λ y. called (of y)) is)
-    ∙ sym (map_more (λ y. called (of y)) xs i x within)
+    ap (map step_of_call) pushed ∙ map_push step_of_call calls one ∙ ap (λ cs. cs ++ step_of_call one ∷ []) so
+    ∙ ap (λ c. map (λ y. called_of_coming (of y)) (take i xs) ++ c ∷ []) (made ∙ ap (λ y. called_of_coming (of y)) is)
+    ∙ sym (map_more (λ y. called_of_coming (of y)) xs i x within)
 
 pub map_of_map : {X Y Z : Type 0} (f : Y → Z) (h : X → Y) (xs : List X) → map (λ x. f (h x)) xs ≡ map f (map h xs)
 map_of_map f h [] = refl
@@ -26,7 +26,7 @@ map_of_map f h (x ∷ xs) = ap (λ zs. f (h x) ∷ zs) (map_of_map f h xs)
 
 -- ---- lines
 
-of_pairs : {A B : Type 0} (name : List ℕ) (at : ℕ) (f : A → Option Called) (h : B → Option TakenFrom) (xs : List A) (ys : List B)
+of_pairs : {A B : Type 0} (name : List ℕ) (at : ℕ) (f : A → Option StepName) (h : B → Option Receipt) (xs : List A) (ys : List B)
     → flat_map (λ (p : A × B). line_for name at (f p.0) (h p.1)) (zip xs ys) ≡ lines_for name at (map f xs) (map h ys)
 of_pairs name at f h [] ys = refl
 of_pairs name at f h (x ∷ xs) [] = refl
@@ -43,7 +43,7 @@ pub lines_more : {P : Type 0} (line : P → List ℕ) (before after : List ℕ) 
 lines_more line before after pairs p is pushed = pushed ∙ ap (λ lines. lines ++ line p) is ∙ flat_map_more line [] pairs p
 
 -- all
-pub all_lines : {A B : Type 0} (name : List ℕ) (at : ℕ) (f : A → Option Called) (h : B → Option TakenFrom) (xs : List A) (ys : List B) (pairs : List (Bor A × Bor B)) (made : List ℕ)
+pub all_lines : {A B : Type 0} (name : List ℕ) (at : ℕ) (f : A → Option StepName) (h : B → Option Receipt) (xs : List A) (ys : List B) (pairs : List (Bor A × Bor B)) (made : List ℕ)
     → made ≡ flat_map (λ (p : Bor A × Bor B). line_for name at (f p.0.now) (h p.1.now)) pairs → map (λ (p : Bor A × Bor B). (p.0.now, p.1.now)) pairs ≡ zip xs ys
     → made ≡ lines_for name at (map f xs) (map h ys)
 all_lines {A = A} {B = B} name at f h xs ys pairs made is all =

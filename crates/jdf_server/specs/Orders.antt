@@ -3,10 +3,11 @@ use Rattle.std.specs.Prelude.{◌≡◌, ◌⊎◌, ◌++◌, ℕ, Bool, List, O
 use Rattle.mio.specs.declared.net.uds.stream.UnixStream.{UnixStream}
 use Rattle.stored_state.specs.declared.addressee.Addressee.{Addressee}
 use Rattle.stored_state.specs.declared.any_controller.AnyController.{AnyController}
-use Rattle.keepers.specs.SystemFile.{count, held, is_honest, kept_in, load_fails, place, save_fails}
+use Rattle.keepers.specs.SystemFile.{count, file_bytes, is_honest, keep_in_file, load_fails, place}
+use Rattle.keepers.specs.SystemFile.{save_fails}
 use Rattle.rounds.specs.Orders.{HasReply}
 use Rattle.rounds.specs.declared.errand.Errand.{Errand}
-use Rattle.rounds.specs.declared.orders.Ordered.{Ordered}
+use Rattle.rounds.specs.declared.orders.AnsweredOperator.{AnsweredOperator}
 use Rattle.shop_folder.specs.Routes.{file_for}
 use Rattle.shop_folder.specs.declared.lies.Lies.TheVariants as lying
 use Rattle.shop_folder.specs.declared.owner.Owner.TheVariants as owners
@@ -14,19 +15,19 @@ use Rattle.shop_folder.specs.declared.place.Place.{Place}
 use Rattle.shop_folder.specs.declared.place.Place.TheVariants as places
 use Rattle.jdf_server.specs.Requests.{LeadsToFile}
 use Rattle.jdf_server.specs.Steps.{TellsKept}
-use Rattle.jdf_server.specs.declared.order_steps.Stepped.{Stepped}
-use Rattle.jdf_server.specs.declared.order_steps.Stepped.TheVariants.{LockedOut, Told}
+use Rattle.jdf_server.specs.declared.order_steps.OrdersResult.{Stepped}
+use Rattle.jdf_server.specs.declared.order_steps.OrdersResult.TheVariants.{LockedOut, Told}
 use Rattle.jdf_server.specs.declared.route.Route.{Route}
 
 -- ---- the steps of a controller
 
 -- those who gave these orders have the responses to what comes of the steps by them of the
 -- controller that a keeper holds, which are saved; or each order is refused, with a status of 503
-abbrev pub OrdersKept : {S K : Type 0} → (K → Bool) → (held place : K → List ℕ) → (K → ℕ)
+abbrev pub OrdersKept : {S K : Type 0} → (K → Bool) → (file_bytes place : K → List ℕ) → (K → ℕ)
     → (K → K → Type 0) → (K → List ℕ → K → Type 0) → K → Addressee → ℕ → List (Errand S)
-    → List (Ordered S) → Option AnyController → Type 0
-OrdersKept is_honest held place count load_fails save_fails keep to now orders told saved =
-    TellsKept (HasReply now) is_honest held place count load_fails save_fails keep to orders told
+    → List (AnsweredOperator S) → Option AnyController → Type 0
+OrdersKept is_honest file_bytes place count load_fails save_fails keep to now orders told saved =
+    TellsKept (HasReply now) is_honest file_bytes place count load_fails save_fails keep to orders told
     saved
 
 -- the same of those who gave orders for the controller in the file of this path; or somebody else
@@ -34,7 +35,7 @@ OrdersKept is_honest held place count load_fails save_fails keep to now orders t
 abbrev pub AreOrdersStepped : List ℕ → Addressee → ℕ → List (Errand UnixStream)
     → Option AnyController → Stepped → Type 0
 AreOrdersStepped path to now orders last (Told told saved) =
-    OrdersKept is_honest held place count load_fails save_fails (kept_in path) to now orders
+    OrdersKept is_honest file_bytes place count load_fails save_fails (keep_in_file path) to now orders
     told.items saved
 AreOrdersStepped path to now orders last (LockedOut left kept) =
     (left.items ≡ orders) × (kept ≡ last)

@@ -19,7 +19,7 @@ use Rattle.http_message.specs.declared.received.Received.{Received}
 use Rattle.peers.specs.declared.turn.Turn.{Turn}
 use Rattle.peers.specs.declared.turn.Turn.TheVariants as turns
 use Rattle.peers_file.specs.Table.{IsUrlOf, Rows}
-use Rattle.rounds.specs.declared.waiting.Waiting.{Waiting}
+use Rattle.rounds.specs.declared.waiting.WaitingClient.{WaitingClient}
 use Rattle.jdf_server.specs.Clients.{Changes, IsMissed, IsRefused, with_client}
 use Rattle.jdf_server.specs.Lines.{Joins}
 use Rattle.jdf_server.specs.declared.entry.Entry.{Entry}
@@ -92,7 +92,7 @@ abbrev pub OnlyClients : {R F : Type 0} → (Slab Entry → Slab Entry → Type 
 OnlyClients so old new = so old.clients.all new.clients.all × (new.lines ≡ old.lines)
 
 -- a client stands in the line to which a route leads, for what has come
-abbrev pub Stands : {R F : Type 0} → Route → Waiting TcpStream → Coming → (old new : Server R F)
+abbrev pub Stands : {R F : Type 0} → Route → WaitingClient TcpStream → Coming → (old new : Server R F)
     → Type 0
 Stands r w coming old new =
     Joins r (record { waiting = w; coming = coming }) old.lines new.lines
@@ -100,26 +100,26 @@ Stands r w coming old new =
 
 -- a client whose message leads to a controller stands in its line with it; one whose message leads
 -- to none is told so
-abbrev pub StandsOrMisses : {R F : Type 0} → Waiting TcpStream → Message → (old new : Server R F)
+abbrev pub StandsOrMisses : {R F : Type 0} → WaitingClient TcpStream → Message → (old new : Server R F)
     → Type 0
 StandsOrMisses w m old new =
     ((r : Route) × LeadsTo old.place m r × Stands r w (comings.Message m) old new)
     ⊎ (LeadsNowhere old.place m × OnlyClients (IsMissed old.clients.now w) old new)
 
 -- a client with a message: if its sender may send here; and if it may not, the client is refused
-abbrev pub StandsIf : {R F : Type 0} → Bool → Waiting TcpStream → Message → (old new : Server R F)
+abbrev pub StandsIf : {R F : Type 0} → Bool → WaitingClient TcpStream → Message → (old new : Server R F)
     → Type 0
 StandsIf true w m old new = StandsOrMisses w m old new
 StandsIf false w m old new = OnlyClients (IsRefused old.clients.now Forbidden w) old new
 
-abbrev pub StandsWith : {R F : Type 0} → Waiting TcpStream → Message → List ℕ
+abbrev pub StandsWith : {R F : Type 0} → WaitingClient TcpStream → Message → List ℕ
     → (old new : Server R F) → Type 0
 StandsWith w m head old new =
     (may : Bool) × MaySend old head m.sender may × StandsIf may w m old new
 
 -- a client whose request carries no message: the one controller that is served hears of that, and in
 -- a folder the client is refused for it
-abbrev pub StandsWithout : {R F : Type 0} → Place → Waiting TcpStream → Refusal
+abbrev pub StandsWithout : {R F : Type 0} → Place → WaitingClient TcpStream → Refusal
     → (old new : Server R F) → Type 0
 StandsWithout (places.File path) w e old new =
     (r : Route) × LeadsToFile path.now r × Stands r w (comings.Neither e) old new
@@ -127,7 +127,7 @@ StandsWithout (places.Folder path) w e old new =
     OnlyClients (IsRefused old.clients.now (Core e) w) old new
 
 -- a client whose request came: the message that its body is, if it is one, tells what becomes of it
-abbrev pub StandsInLine : {R F : Type 0} → Waiting TcpStream → Received → (old new : Server R F)
+abbrev pub StandsInLine : {R F : Type 0} → WaitingClient TcpStream → Received → (old new : Server R F)
     → Type 0
 StandsInLine w request old new =
     ((m : Message) × IsDecodedAs request.body (Ok m)

@@ -10,46 +10,48 @@ use Rattle.shop_folder.specs.Owner.{addressed_owner}
 use Rattle.shop_folder.specs.declared.owner.Owner.{Owner}
 use Rattle.stored_state.specs.declared.any_controller.AnyController.{AnyController}
 use Rattle.stored_state.specs.declared.taken_bytes.TakenBytes.{TakenBytes}
-use Rattle.keepers.specs.SystemFile.{count, held, is_honest, kept_in, load_fails, place, save_fails}
+use Rattle.keepers.specs.SystemFile.{count, file_bytes, is_honest, keep_in_file, load_fails, place}
+use Rattle.keepers.specs.SystemFile.{save_fails}
 use Rattle.rounds.specs.Line.{AreRefused, AreToldNone, HasAnswer, TellsLine, waiting_of}
-use Rattle.rounds.specs.declared.answered.Answered.{Answered}
+use Rattle.rounds.specs.declared.answered.AnsweredClient.{AnsweredClient}
 use Rattle.rounds.specs.declared.errand.Errand.{Errand}
-use Rattle.rounds.specs.declared.waiting.Waiting.{Waiting}
+use Rattle.rounds.specs.declared.waiting.WaitingClient.{WaitingClient}
 use Rattle.jdf_server.specs.Clients.{AreGivenBack, AreLetGo, AreMissed}
 use Rattle.jdf_server.specs.Lines.{IsParted, Stays, is_gone, is_late}
 use Rattle.jdf_server.specs.declared.entry.Entry.{Entry}
 use Rattle.jdf_server.specs.declared.server.Server.{Server}
-use Rattle.jdf_server.specs.declared.stepping.Stepped.{Stepped}
-use Rattle.jdf_server.specs.declared.stepping.Stepped.TheVariants.{Answered as answered_so, LockedOut as locked_out}
+use Rattle.jdf_server.specs.declared.stepping.StepsResult.{StepsResult}
+use Rattle.jdf_server.specs.declared.stepping.StepsResult.TheVariants.{Answered as answered_so}
+use Rattle.jdf_server.specs.declared.stepping.StepsResult.TheVariants.{LockedOut as locked_out}
 
 -- ---- the steps of a controller
 
 -- those who wait for the controller that a keeper holds, if it is one that is addressed, are told,
 -- in this form, what comes of its steps at a time, which are saved; or each is refused, with a
 -- status of 503
-abbrev pub TellsKept : {S A K : Type 0} → (Result TakenBytes Refused → Waiting S → A → Type 0)
-    → (K → Bool) → (held place : K → List ℕ) → (K → ℕ) → (K → K → Type 0)
+abbrev pub TellsKept : {S A K : Type 0} → (Result TakenBytes Refused → WaitingClient S → A → Type 0)
+    → (K → Bool) → (file_bytes place : K → List ℕ) → (K → ℕ) → (K → K → Type 0)
     → (K → List ℕ → K → Type 0) → K → Addressee → List (Errand S) → List A → Option AnyController
     → Type 0
-TellsKept {K = K} IsTold honest held place count loads saves keep to errands told saved =
+TellsKept {K = K} IsTold honest file_bytes place count loads saves keep to errands told saved =
     ((at : ℕ) × (after : K)
-    × TellsLine IsTold honest held place count loads saves to at keep after errands told saved)
+    × TellsLine IsTold honest file_bytes place count loads saves to at keep after errands told saved)
     ⊎ AreToldNone IsTold (waiting_of errands) told
 
 -- those who have sent a message are answered so
-abbrev pub StepsKept : {S K : Type 0} → (K → Bool) → (held place : K → List ℕ) → (K → ℕ)
+abbrev pub StepsKept : {S K : Type 0} → (K → Bool) → (file_bytes place : K → List ℕ) → (K → ℕ)
     → (K → K → Type 0) → (K → List ℕ → K → Type 0) → K → Addressee → ℕ → List (Errand S)
-    → List (Answered S) → Option AnyController → Type 0
-StepsKept is_honest held place count load_fails save_fails keep to now errands answered saved =
-    TellsKept (HasAnswer now) is_honest held place count load_fails save_fails keep to errands
+    → List (AnsweredClient S) → Option AnyController → Type 0
+StepsKept is_honest file_bytes place count load_fails save_fails keep to now errands answered saved =
+    TellsKept (HasAnswer now) is_honest file_bytes place count load_fails save_fails keep to errands
     answered saved
 
 -- the same of those who wait for the controller in the file of this path; or somebody else has that
 -- locked, and they wait on
 abbrev pub IsStepped : List ℕ → Addressee → ℕ → List (Errand TcpStream) → Option AnyController
-    → Stepped → Type 0
+    → StepsResult → Type 0
 IsStepped path to now errands last (answered_so answered saved) =
-    StepsKept is_honest held place count load_fails save_fails (kept_in path) to now errands
+    StepsKept is_honest file_bytes place count load_fails save_fails (keep_in_file path) to now errands
     answered.items saved
 IsStepped path to now errands last (locked_out left kept) =
     (left.items ≡ errands) × (kept ≡ last)
@@ -62,10 +64,10 @@ pub record StepsClients (path : List ℕ) (to : Owner) (now : ℕ) (errands : Li
     (old new : Slab Entry) : Type 0 where
   pub addressee : Addressee
   pub addressed : addressed_owner addressee ≡ to
-  pub answered : List (Answered TcpStream)
+  pub answered : List (AnsweredClient TcpStream)
   pub saved : Option AnyController
   pub steps :
-      StepsKept is_honest held place count load_fails save_fails (kept_in path) addressee now
+      StepsKept is_honest file_bytes place count load_fails save_fails (keep_in_file path) addressee now
       errands answered saved
   pub back : AreGivenBack (Some path) answered old new
 
@@ -74,7 +76,7 @@ pub record RefusesLate (path : List ℕ) (now : ℕ) (errands left : List (Erran
     (old new : Slab Entry) : Type 0 where
   pub late : List (Errand TcpStream)
   pub parted : IsParted (is_late now) errands left late
-  pub answered : List (Answered TcpStream)
+  pub answered : List (AnsweredClient TcpStream)
   pub refused : AreRefused now LoadFailed (waiting_of late) answered
   pub back : AreGivenBack (Some path) answered old new
 

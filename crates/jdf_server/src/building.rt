@@ -11,7 +11,7 @@ use crate::page::PAGE;
 use crate::post::Post;
 use crate::server::{MAX_EVENTS, Server};
 use crate::service::Service;
-use crate::watched::Watched;
+use crate::watched::ControllerViews;
 use http_message::Methods;
 use indexmap::IndexMap;
 use keepers::Locks;
@@ -126,7 +126,7 @@ fn server<'a, R: Locks + Net + Clock + Alloc + Clone + Drop, F: Write + Drop>(
         lines: IndexMap::new(alloc),
         is_locked_out: false,
         saved,
-        watched: Watched::new(alloc),
+        watched: ControllerViews::new(alloc),
         post: None,
     })
 }

@@ -3,7 +3,7 @@
 ghost use Rattle.std.specs.Prelude.{◌≡◌, ◌<◌, length};
 
 use crate::own::{Own, Parcel, Task};
-use crate::post::Flying;
+use crate::post::CallInFlight;
 use crate::server::Server;
 use controller::Message;
 use http_message::{Received, send_to};
@@ -56,7 +56,7 @@ fn request_of(
 
 /// What came back of a message.
 #[derive(Drop)]
-enum Came {
+enum CallResult {
     /// An answer, which refuses the message for the refusal of this number, if it does.
     Answer(Message, Option<u16>),
     /// The message is too large for the other server.
@@ -66,19 +66,19 @@ enum Came {
 }
 
 /// What a response says.
-fn came_of(alloc: Global, response: &Received) -> Came {
+fn result_of(alloc: Global, response: &Received) -> CallResult {
     if response.status == TOO_LARGE {
-        return Came::TooLarge;
+        return CallResult::TooLarge;
     }
     if response.status != DONE {
-        return Came::Nothing;
+        return CallResult::Nothing;
     }
     match decode(alloc, response.body.as_slice()) {
         Ok(message) => {
             let refusal = refusal_told(&message);
-            Came::Answer(message, refusal)
+            CallResult::Answer(message, refusal)
         }
-        Err(_) => Came::Nothing,
+        Err(_) => CallResult::Nothing,
     }
 }
 
@@ -104,7 +104,7 @@ impl<'a, R: Locks + Net + Clock, F: Write + Drop> Server<'a, R, F> {
         if let Some(post) = &mut self.post
             && post.deliveries.flies(line)
         {
-            post.deliveries.failed(line, self.clients.now);
+            post.deliveries.fail_flight(line, self.clients.now);
             if let Some((_, destination)) = post.targets.get_index(line) {
                 post.houses.fail(destination, self.clients.now);
             }
@@ -127,8 +127,10 @@ impl<'a, R: Locks + Net + Clock, F: Write + Drop> Server<'a, R, F> {
             && post.deliveries.flies(line)
         {
             match refusal {
-                None => post.deliveries.taken(line, self.clients.now),
-                Some(number) => post.deliveries.refused(line, number, self.clients.now),
+                None => post.deliveries.accept_flight(line, self.clients.now),
+                Some(number) => post
+                    .deliveries
+                    .refuse_flight(line, number, self.clients.now),
             }
         }
     }
@@ -140,7 +142,7 @@ impl<'a, R: Locks + Net + Clock, F: Write + Drop> Server<'a, R, F> {
         if let Some(post) = &mut self.post
             && post.deliveries.flies(line)
         {
-            post.deliveries.withdrawn(line);
+            post.deliveries.withdraw_flight(line);
         }
     }
 
@@ -215,7 +217,7 @@ impl<'a, R: Locks + Net + Clock, F: Write + Drop> Server<'a, R, F> {
             body: ANSWER_BYTES,
         };
         let call = Call::new(self.alloc, request, limits, stream, self.clients.now);
-        post.calls.insert(Flying {
+        post.calls.insert(CallInFlight {
             parcel: *parcel,
             path,
             call: Some(call),
@@ -283,8 +285,8 @@ impl<'a, R: Locks + Net + Clock, F: Write + Drop> Server<'a, R, F> {
     /// Ends a call, whose response came, or didn't.
     fn end_call(&mut self, key: usize, response: Option<Received>) -> Result<(), AllocError> {
         let came = match &response {
-            Some(response) => came_of(self.alloc, response),
-            None => Came::Nothing,
+            Some(response) => result_of(self.alloc, response),
+            None => CallResult::Nothing,
         };
         drop(response);
         match self.remove_call(key) {
@@ -299,15 +301,20 @@ impl<'a, R: Locks + Net + Clock, F: Write + Drop> Server<'a, R, F> {
     /// Takes a call out, and tells what it carried.
     fn remove_call(&mut self, key: usize) -> Option<(String, Parcel)> {
         let post = self.post.as_mut()?;
-        let Flying { parcel, path, call } = post.calls.try_remove(key)?;
+        let CallInFlight { parcel, path, call } = post.calls.try_remove(key)?;
         drop(call);
         Some((path, parcel))
     }
 
     /// Does behind a call what is to be done.
-    fn follow_call(&mut self, path: String, parcel: Parcel, came: Came) -> Result<(), AllocError> {
+    fn follow_call(
+        &mut self,
+        path: String,
+        parcel: Parcel,
+        came: CallResult,
+    ) -> Result<(), AllocError> {
         match came {
-            Came::Answer(message, refusal) => {
+            CallResult::Answer(message, refusal) => {
                 let task = Task::Take(message, refusal);
                 let until = self.own_until();
                 let own = Own {
@@ -317,11 +324,11 @@ impl<'a, R: Locks + Net + Clock, F: Write + Drop> Server<'a, R, F> {
                 };
                 self.join_own(path, own)
             }
-            Came::TooLarge => {
+            CallResult::TooLarge => {
                 self.settle(path.as_str(), &parcel, Some(TOO_LARGE));
                 Ok(())
             }
-            Came::Nothing => {
+            CallResult::Nothing => {
                 self.fail(path.as_str(), &parcel);
                 Ok(())
             }

@@ -10,7 +10,7 @@ use crate::note::Note;
 use listeners::{Log, MessageListener};
 use mio::net::TcpStream;
 use peers::{Client, Turn};
-use rounds::{Answered, Waiting, refuse};
+use rounds::{AnsweredClient, WaitingClient, refuse};
 use shop_folder::Place;
 use shop_page::Counts;
 use slab::Slab;
@@ -68,7 +68,7 @@ fn seat(entry: &mut Entry, client: Client<TcpStream>) -> usize
     ensures { entry.new ≡ with_client client entry.old }
 {
     let before = entry.held;
-    entry.held = client.held();
+    entry.held = client.held_bytes();
     entry.client = Some(client);
     before
 }
@@ -175,7 +175,7 @@ impl<'a, R: Clock, F: Write + Drop> Clients<'a, R, F> {
         ensures clients { Changes (with_client client) key self.old.all self.new.all }
         ensures moment { self.new.now ≡ self.old.now }
     {
-        let held = client.held();
+        let held = client.held_bytes();
         if let Some(before) = put_in(&mut self.all, key, client) {
             self.held = self.held.saturating_sub(before).saturating_add(held);
         }
@@ -184,14 +184,14 @@ impl<'a, R: Clock, F: Write + Drop> Clients<'a, R, F> {
     /// Gives a client the response to a request that is refused.
     pub(crate) fn refuse(
         &mut self,
-        waiting: Waiting<TcpStream>,
+        waiting: WaitingClient<TcpStream>,
         refused: Refused,
     ) -> Result<(), AllocError>
         ensures clients { OnOk result (IsRefused self.old.now refused waiting self.old.all
             self.new.all) }
         ensures moment { self.new.now ≡ self.old.now }
     {
-        let Waiting { key, asked } = waiting;
+        let WaitingClient { key, asked } = waiting;
         let answered = refuse(self.alloc, key, asked, refused, self.now);
         self.give_back(answered, None)
     }
@@ -210,14 +210,14 @@ impl<'a, R: Clock, F: Write + Drop> Clients<'a, R, F> {
     /// Puts a client back that has its response, and notes what is told of its request.
     pub(crate) fn give_back(
         &mut self,
-        answered: Answered<TcpStream>,
+        answered: AnsweredClient<TcpStream>,
         path: Option<String>,
     ) -> Result<(), AllocError>
         ensures clients { OnOk result (IsGivenBack (option_map (λ p. string_bytes p) path) answered
             self.old.all self.new.all) }
         ensures moment { self.new.now ≡ self.old.now }
     {
-        let Answered {
+        let AnsweredClient {
             key,
             client,
             told,

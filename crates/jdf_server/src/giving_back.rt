@@ -12,7 +12,7 @@ use crate::telling::GONE;
 use http_edge::Served;
 use http_message::missing_bytes;
 use mio::net::TcpStream;
-use rounds::{Answered, Errand, Room, Waiting, refuse_errands};
+use rounds::{AnsweredClient, Errand, Room, WaitingClient, refuse_errands};
 use std::alloc::{AllocError, Global};
 use std::io::Write;
 use std::time::Clock;
@@ -22,7 +22,7 @@ use streams::Refused;
 type Parted = (Vec<Errand<TcpStream>>, Vec<Errand<TcpStream>>);
 
 /// Those of a line who may wait on, and those who waited as long as they may.
-fn parted_late(
+fn late_and_waiting(
     alloc: Global,
     errands: Vec<Errand<TcpStream>>,
     now: u64,
@@ -50,23 +50,23 @@ fn key_of(errand: Errand<TcpStream>) -> usize
 }
 
 /// Who waits with an errand.
-fn waiting_of(errand: Errand<TcpStream>) -> Waiting<TcpStream>
+fn waiting_of(errand: Errand<TcpStream>) -> WaitingClient<TcpStream>
     ensures { result ≡ errand.waiting }
 {
     errand.waiting
 }
 
 /// A client with the response that no such controller is there.
-fn missing(
+fn missing_response(
     alloc: Global,
-    waiting: Waiting<TcpStream>,
+    waiting: WaitingClient<TcpStream>,
     now: u64,
-) -> Result<Answered<TcpStream>, AllocError>
+) -> Result<AnsweredClient<TcpStream>, AllocError>
     ensures { IfOk result (TellsMissing now waiting) }
 {
-    let Waiting { key, asked } = waiting;
+    let WaitingClient { key, asked } = waiting;
     let response = missing_bytes(alloc)?;
-    Ok(Answered {
+    Ok(AnsweredClient {
         key,
         client: asked.answer(response.as_slice(), now).ok(),
         told: Served {
@@ -79,12 +79,12 @@ fn missing(
 
 impl<'a, R: Clock, F: Write + Drop> Clients<'a, R, F> {
     /// Answers a client whose request is for no controller that is there.
-    pub(crate) fn miss(&mut self, waiting: Waiting<TcpStream>) -> Result<(), AllocError>
+    pub(crate) fn miss(&mut self, waiting: WaitingClient<TcpStream>) -> Result<(), AllocError>
         ensures clients { OnOk result (IsMissed self.old.now waiting self.old.all
             self.new.all) }
         ensures moment { self.new.now ≡ self.old.now }
     {
-        let answered = missing(self.alloc, waiting, self.now)?;
+        let answered = missing_response(self.alloc, waiting, self.now)?;
         self.give_back(answered, None)
     }
 
@@ -142,7 +142,7 @@ impl<'a, R: Clock, F: Write + Drop> Clients<'a, R, F> {
             left.items self.old.all self.new.all) }
         ensures moment { self.new.now ≡ self.old.now }
     {
-        let (left, late) = parted_late(self.alloc, errands, self.now)?;
+        let (left, late) = late_and_waiting(self.alloc, errands, self.now)?;
         let room = Room::new(self.alloc, late.len())?;
         let answered = refuse_errands(self.alloc, late, room, Refused::LoadFailed, self.now);
         self.give_back_all(answered, path)?;
@@ -152,7 +152,7 @@ impl<'a, R: Clock, F: Write + Drop> Clients<'a, R, F> {
     /// Puts clients back that have their responses.
     pub(crate) fn give_back_all(
         &mut self,
-        answered: Vec<Answered<TcpStream>>,
+        answered: Vec<AnsweredClient<TcpStream>>,
         path: &str,
     ) -> Result<(), AllocError>
         ensures clients { OnOk result (AreGivenBack (Some path.now) answered.items self.old.all

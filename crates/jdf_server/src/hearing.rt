@@ -2,7 +2,7 @@
 
 use crate::post::Post;
 use mio::net::TcpStream;
-use rounds::Answered;
+use rounds::AnsweredClient;
 use std::alloc::{AllocError, Global};
 use ticket_tree::Id;
 
@@ -20,7 +20,7 @@ impl Post {
     /// once. Without memory it goes at its own moment.
     fn hear(&mut self, alloc: Global, name: &Id, now: u64) {
         if let Ok(Some(line)) = self.known_line(alloc, name) {
-            self.deliveries.heard(line, now);
+            self.deliveries.hear_from(line, now);
         }
     }
 }
@@ -29,7 +29,7 @@ impl Post {
 pub(crate) fn hear_all(
     post: &mut Option<Post>,
     alloc: Global,
-    answered: &[Answered<TcpStream>],
+    answered: &[AnsweredClient<TcpStream>],
     now: u64,
 ) {
     let Some(post) = post else {

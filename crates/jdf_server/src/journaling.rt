@@ -6,13 +6,13 @@ ghost use Rattle.journal.specs.Journal.{Misses};
 ghost use Rattle.rounds.specs.Line.{comings_of};
 ghost use Rattle.stored_state.specs.Addressee.{name_of};
 ghost use Rattle.jdf_server.specs.Journaled as told;
-ghost use Rattle.jdf_server.specs.Journaled.{AreJournaled, Called, StepsJournaled};
+ghost use Rattle.jdf_server.specs.Journaled.{AreJournaled, StepName, StepsJournaled};
 
 use controller::{Body, Reply};
 use journal::{Journal, message_word, order_word, step_line};
-use rounds::{Answered, Errand, Ordered};
+use rounds::{AnsweredClient, AnsweredOperator, Errand};
 use std::alloc::{AllocError, Global};
-use stored_state::{AnyController, Coming, Saved, TakenBytes};
+use stored_state::{AnyController, Coming, SavedState, TakenBytes};
 use ticket_tree::{Id, Refusal};
 
 /// The only order that `serve` gives.
@@ -29,7 +29,7 @@ pub(crate) struct Call {
 
 /// What comes, as a line tells it; nothing of what makes no step.
 fn call_of(coming: &Coming) -> Option<Call>
-    ensures { told.kept result ≡ told.called coming.now }
+    ensures { told.step_of_call result ≡ told.called_of_coming coming.now }
 {
     match coming {
         Coming::Message(message) => Some(Call {
@@ -51,7 +51,7 @@ pub(crate) fn calls_of_comings<J: Journal>(
     comings: &[Coming],
 ) -> Result<Vec<Option<Call>>, AllocError>
     ensures { J.is_honest journal.now ≡ true → IfOk result (λ calls.
-        map told.kept calls.items ≡ map told.called comings.now) }
+        map told.step_of_call calls.items ≡ map told.called_of_coming comings.now) }
 {
     let mut calls = Vec::new(alloc);
     if !journal.is_wanted() {
@@ -70,7 +70,7 @@ pub(crate) fn calls_of_errands<J: Journal, S: Drop>(
     errands: &[Errand<S>],
 ) -> Result<Vec<Option<Call>>, AllocError>
     ensures { J.is_honest journal.now ≡ true → IfOk result (λ calls.
-        map told.kept calls.items ≡ map told.called (comings_of errands.now)) }
+        map told.step_of_call calls.items ≡ map told.called_of_coming (comings_of errands.now)) }
 {
     let mut calls = Vec::new(alloc);
     if !journal.is_wanted() {
@@ -83,8 +83,8 @@ pub(crate) fn calls_of_errands<J: Journal, S: Drop>(
 }
 
 /// Whether a step that replied so left its controller as it was, so that nothing was to be saved.
-fn rests(call: &Call, reply: &Reply) -> bool
-    ensures { result ≡ told.rests (told.kept_call call.now) reply.now }
+fn is_idle(call: &Call, reply: &Reply) -> bool
+    ensures { result ≡ told.is_idle (told.kept_call call.now) reply.now }
 {
     !call.is_abort
         && matches!(
@@ -104,13 +104,13 @@ fn push_line(
     at: u64,
 ) -> Result<(), AllocError>
     ensures { OnOk result (lines.new.items ≡ lines.old.items
-        ++ told.line_for (name_of controller.now) at (told.kept call.now)
+        ++ told.line_for (name_of controller.now) at (told.step_of_call call.now)
         (Some (record { reply = reply.now; sender = by.now }))) }
 {
     let Some(call) = call else {
         return Ok(());
     };
-    if rests(call, reply) {
+    if is_idle(call, reply) {
         return Ok(());
     }
     let (what, reply) = (call.what, *reply);
@@ -124,12 +124,12 @@ fn push_answered<S: Drop>(
     lines: &mut Vec<u8>,
     controller: &AnyController,
     call: &Option<Call>,
-    answered: &Answered<S>,
+    answered: &AnsweredClient<S>,
     at: u64,
 ) -> Result<(), AllocError>
     ensures { OnOk result (lines.new.items ≡ lines.old.items
-        ++ told.line_for (name_of controller.now) at (told.kept call.now)
-        (told.taken_in answered.now)) }
+        ++ told.line_for (name_of controller.now) at (told.step_of_call call.now)
+        (told.taken_from_client answered.now)) }
 {
     match &answered.taken {
         Some(taken) => {
@@ -160,8 +160,8 @@ fn push_given(
     at: u64,
 ) -> Result<(), AllocError>
     ensures { OnOk result (lines.new.items ≡ lines.old.items
-        ++ told.line_for (name_of controller.now) at (told.kept call.now)
-        (told.given_from given.now)) }
+        ++ told.line_for (name_of controller.now) at (told.step_of_call call.now)
+        (told.taken_from_result given.now)) }
 {
     if let Ok(taken) = given
         && let Ok(reply) = &taken.reply
@@ -176,12 +176,12 @@ fn push_given(
 fn answered_lines<S: Drop>(
     alloc: Global,
     calls: &[Option<Call>],
-    answered: &[Answered<S>],
+    answered: &[AnsweredClient<S>],
     controller: &AnyController,
     at: u64,
 ) -> Result<Vec<u8>, AllocError>
     ensures { IfOk result (λ lines. lines.items ≡ told.lines_for (name_of controller.now) at
-        (map told.kept calls.now) (map told.taken_in answered.now)) }
+        (map told.step_of_call calls.now) (map told.taken_from_client answered.now)) }
 {
     let mut lines = Vec::new(alloc);
     for (call, one) in calls.iter().zip(answered.iter()) {
@@ -199,7 +199,7 @@ fn given_lines(
     at: u64,
 ) -> Result<Vec<u8>, AllocError>
     ensures { IfOk result (λ lines. lines.items ≡ told.lines_for (name_of controller.now) at
-        (map told.kept calls.now) (map told.given_from given.now)) }
+        (map told.step_of_call calls.now) (map told.taken_from_result given.now)) }
 {
     let mut lines = Vec::new(alloc);
     for (call, one) in calls.iter().zip(given.iter()) {
@@ -232,17 +232,18 @@ fn append<J: Journal>(journal: &mut J, lines: Result<Vec<u8>, AllocError>)
 }
 
 /// Appends the lines of the steps that clients came for and that were saved.
-pub(crate) fn journal_answered<J: Journal, S: Drop>(
+pub(crate) fn journal_clients_steps<J: Journal, S: Drop>(
     alloc: Global,
     journal: &mut J,
     calls: Result<Vec<Option<Call>>, AllocError>,
-    answered: &[Answered<S>],
-    saved: &Option<Saved>,
+    answered: &[AnsweredClient<S>],
+    saved: &Option<SavedState>,
     at: u64,
 )
-    ensures { J.is_honest journal.old ≡ true → (all : List (Option Called))
-        → IfOk calls (λ calls. map told.kept calls.items ≡ all)
-        → StepsJournaled J.held J.is_missed at all (map told.taken_in answered.now) saved.now
+    ensures { J.is_honest journal.old ≡ true → (all : List (Option StepName))
+        → IfOk calls (λ calls. map told.step_of_call calls.items ≡ all)
+        → StepsJournaled J.held J.is_missed at all
+        (map told.taken_from_client answered.now) saved.now
         journal.old journal.new }
 {
     let Some(saved) = saved else {
@@ -258,17 +259,17 @@ pub(crate) fn journal_answered<J: Journal, S: Drop>(
 }
 
 /// The same of what no client waits for.
-pub(crate) fn journal_given<J: Journal>(
+pub(crate) fn journal_own_steps<J: Journal>(
     alloc: Global,
     journal: &mut J,
     calls: Result<Vec<Option<Call>>, AllocError>,
     given: &[Result<TakenBytes, Refusal>],
-    saved: &Option<Saved>,
+    saved: &Option<SavedState>,
     at: u64,
 )
-    ensures { J.is_honest journal.old ≡ true → (all : List (Option Called))
-        → IfOk calls (λ calls. map told.kept calls.items ≡ all)
-        → StepsJournaled J.held J.is_missed at all (map told.given_from given.now) saved.now
+    ensures { J.is_honest journal.old ≡ true → (all : List (Option StepName))
+        → IfOk calls (λ calls. map told.step_of_call calls.items ≡ all)
+        → StepsJournaled J.held J.is_missed at all (map told.taken_from_result given.now) saved.now
         journal.old journal.new }
 {
     let Some(saved) = saved else {
@@ -315,7 +316,7 @@ pub(crate) fn words_of<J: Journal, S: Drop>(
 fn ordered_lines<S: Drop>(
     alloc: Global,
     words: &[Option<String>],
-    ordered: &[Ordered<S>],
+    ordered: &[AnsweredOperator<S>],
     controller: &AnyController,
     at: u64,
 ) -> Result<Vec<u8>, AllocError> {
@@ -330,12 +331,12 @@ fn ordered_lines<S: Drop>(
 }
 
 /// Appends the lines of the steps by orders that were saved.
-pub(crate) fn journal_ordered<J: Journal, S: Drop>(
+pub(crate) fn journal_order_steps<J: Journal, S: Drop>(
     alloc: Global,
     journal: &mut J,
     words: Result<Vec<Option<String>>, AllocError>,
-    ordered: &[Ordered<S>],
-    saved: &Option<Saved>,
+    ordered: &[AnsweredOperator<S>],
+    saved: &Option<SavedState>,
     at: u64,
 ) {
     let Some(saved) = saved else {

@@ -15,7 +15,7 @@ use crate::own::Own;
 use crate::post::Post;
 use crate::route::{Route, route_of};
 use crate::server::Server;
-use crate::stepping::{Stepped, begin_in_file, is_missing, step_in_file};
+use crate::stepping::{StepsResult, begin_in_file, is_missing, step_in_file};
 use controller::{Body, Message};
 use http_edge::Received;
 use http_message::lone_field;
@@ -24,7 +24,7 @@ use jmf_message::decode;
 use journal::FileJournal;
 use keepers::Locks;
 use mio::net::{TcpStream, UnixStream};
-use rounds::{Errand, SavedStates, Waiting};
+use rounds::{Errand, SavedStates, WaitingClient};
 use shop_folder::{Owner, Place};
 use slab::Slab;
 use std::alloc::{AllocError, Global};
@@ -32,7 +32,7 @@ use std::io::Write;
 use std::mem;
 use std::net::Net;
 use std::time::Clock;
-use stored_state::{Coming, Saved};
+use stored_state::{Coming, SavedState};
 use streams::Refused;
 use ticket_tree::Refusal;
 
@@ -65,7 +65,7 @@ fn is_gone(clients: &Slab<Entry>, key: usize) -> bool
 }
 
 /// Those of a line who are there still, and those whose connections are broken.
-fn parted_gone(
+fn gone_and_there(
     alloc: Global,
     errands: Vec<Errand<TcpStream>>,
     clients: &Slab<Entry>,
@@ -113,7 +113,7 @@ pub(crate) fn keep_in(
     alloc: Global,
     saved: &mut SavedStates,
     path: &str,
-    last: Option<Saved>,
+    last: Option<SavedState>,
 ) -> Result<(), AllocError> {
     match last {
         Some(last) => saved.keep(String::from_str(alloc, path)?, last),
@@ -145,7 +145,7 @@ impl<'a, R: Locks + Net + Clock, F: Write + Drop> Server<'a, R, F> {
     /// Puts a client in the line of the controller to which its request leads.
     pub(crate) fn stand_in_line(
         &mut self,
-        waiting: Waiting<TcpStream>,
+        waiting: WaitingClient<TcpStream>,
         request: Received,
     ) -> Result<(), AllocError>
         ensures { OnOk result (StandsInLine waiting request self.old self.new) }
@@ -160,7 +160,7 @@ impl<'a, R: Locks + Net + Clock, F: Write + Drop> Server<'a, R, F> {
     /// The same of one whose request carries this message, if its sender may send here.
     fn stand_with(
         &mut self,
-        waiting: Waiting<TcpStream>,
+        waiting: WaitingClient<TcpStream>,
         message: Message,
         head: &[u8],
     ) -> Result<(), AllocError>
@@ -176,7 +176,7 @@ impl<'a, R: Locks + Net + Clock, F: Write + Drop> Server<'a, R, F> {
     /// The same of one whose sender may.
     fn stand_or_miss(
         &mut self,
-        waiting: Waiting<TcpStream>,
+        waiting: WaitingClient<TcpStream>,
         message: Message,
     ) -> Result<(), AllocError>
         ensures { OnOk result (StandsOrMisses waiting message self.old self.new) }
@@ -191,7 +191,7 @@ impl<'a, R: Locks + Net + Clock, F: Write + Drop> Server<'a, R, F> {
     /// that, and else the client is refused.
     fn stand_without(
         &mut self,
-        waiting: Waiting<TcpStream>,
+        waiting: WaitingClient<TcpStream>,
         refusal: Refusal,
     ) -> Result<(), AllocError>
         ensures { OnOk result (StandsWithout self.old.place waiting refusal self.old self.new) }
@@ -212,7 +212,7 @@ impl<'a, R: Locks + Net + Clock, F: Write + Drop> Server<'a, R, F> {
     fn stand(
         &mut self,
         route: Route,
-        waiting: Waiting<TcpStream>,
+        waiting: WaitingClient<TcpStream>,
         coming: Coming,
     ) -> Result<(), AllocError>
         ensures { OnOk result (Stands route waiting coming self.old self.new) }
@@ -261,7 +261,11 @@ impl<'a, R: Locks + Net + Clock, F: Write + Drop> Server<'a, R, F> {
     }
 
     /// Keeps what a file held last, where that is known.
-    pub(crate) fn keep_last(&mut self, path: &str, last: Option<Saved>) -> Result<(), AllocError>
+    pub(crate) fn keep_last(
+        &mut self,
+        path: &str,
+        last: Option<SavedState>,
+    ) -> Result<(), AllocError>
         ensures clients { self.new.clients.all ≡ self.old.clients.all }
         ensures rest { (self.new.clients.now ≡ self.old.clients.now)
             × (self.new.lines ≡ self.old.lines) }
@@ -271,7 +275,12 @@ impl<'a, R: Locks + Net + Clock, F: Write + Drop> Server<'a, R, F> {
 
     /// Has those of a line wait on, whose file somebody else has locked, but for those who waited as
     /// long as they may.
-    fn wait_on(&mut self, path: String, line: Line, last: Option<Saved>) -> Result<(), AllocError>
+    fn wait_on(
+        &mut self,
+        path: String,
+        line: Line,
+        last: Option<SavedState>,
+    ) -> Result<(), AllocError>
         ensures { OnOk result (WaitsOn (string_bytes path) line.to line.errands.items self.old
             self.new) }
     {
@@ -338,7 +347,7 @@ impl<'a, R: Locks + Net + Clock, F: Write + Drop> Server<'a, R, F> {
         )?;
         self.clients.tell_missed(&journal);
         match stepped {
-            Stepped::Answered(answered, saved) => {
+            StepsResult::Answered(answered, saved) => {
                 hear_all(
                     &mut self.post,
                     self.alloc,
@@ -349,7 +358,7 @@ impl<'a, R: Locks + Net + Clock, F: Write + Drop> Server<'a, R, F> {
                 self.keep_saved(path.as_str(), &to, saved)?;
                 self.step_beside(path.as_str(), &to, orders, own)
             }
-            Stepped::LockedOut(errands, last) => {
+            StepsResult::LockedOut(errands, last) => {
                 let line = Line {
                     to,
                     errands,
@@ -380,7 +389,7 @@ impl<'a, R: Locks + Net + Clock, F: Write + Drop> Server<'a, R, F> {
             orders,
             own,
         } = line;
-        let (errands, gone) = parted_gone(self.alloc, errands, &self.clients.all)?;
+        let (errands, gone) = gone_and_there(self.alloc, errands, &self.clients.all)?;
         self.clients.pass_over_all(gone, path.as_str())?;
         if errands.is_empty() {
             return self.step_beside(path.as_str(), &to, orders, own);

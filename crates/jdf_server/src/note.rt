@@ -1,5 +1,5 @@
 use http_edge::Served;
-use rounds::TakenFrom;
+use rounds::Receipt;
 
 /// What is told of a client's request in its line of the log.
 #[derive(Drop)]
@@ -9,5 +9,5 @@ pub(crate) struct Note {
     /// The status of its response, and the refusal that was met.
     pub told: Served,
     /// What its message was taken as and from whom, if it was taken.
-    pub taken: Option<TakenFrom>,
+    pub taken: Option<Receipt>,
 }

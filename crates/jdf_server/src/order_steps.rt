@@ -5,29 +5,29 @@ ghost use Rattle.rounds.specs.Line.{AreToldOf, HasRoom, waiting_of};
 ghost use Rattle.rounds.specs.Orders.{HasReply};
 ghost use Rattle.jdf_server.specs.Orders.{AreOrdersStepped, OrdersKept};
 
-use crate::journaling::{journal_ordered, words_of};
+use crate::journaling::{journal_order_steps, words_of};
 use crate::line::Line;
 use crate::server::Server;
 use http_message::missing_bytes;
 use journal::{FileJournal, Journal, seconds};
 use keepers::{FileKeep, Keep, Locks};
 use mio::net::UnixStream;
-use rounds::{Errand, Ordered, Room, Waiting, answer_all, refuse_errands};
+use rounds::{AnsweredOperator, Errand, Room, WaitingClient, answer_all, refuse_errands};
 use shop_folder::Owner;
 use std::alloc::{AllocError, Global};
 use std::io::Write;
 use std::net::Net;
 use std::time::Clock;
-use stored_state::{Addressee, Saved};
+use stored_state::{Addressee, SavedState};
 use streams::Refused;
 
 /// What came of orders.
 #[derive(Drop)]
-enum Stepped {
+enum OrdersResult {
     /// Each has the response; and the controller as it was saved, if it was.
-    Told(Vec<Ordered<UnixStream>>, Option<Saved>),
+    Told(Vec<AnsweredOperator<UnixStream>>, Option<SavedState>),
     /// Somebody else has its file locked, and nothing was done.
-    LockedOut(Vec<Errand<UnixStream>>, Option<Saved>),
+    LockedOut(Vec<Errand<UnixStream>>, Option<SavedState>),
 }
 
 /// The number of who gave an order.
@@ -38,19 +38,19 @@ fn key_of(order: Errand<UnixStream>) -> usize
 }
 
 /// Who gave an order.
-fn giver_of(order: Errand<UnixStream>) -> Waiting<UnixStream>
+fn giver_of(order: Errand<UnixStream>) -> WaitingClient<UnixStream>
     ensures { result ≡ order.waiting }
 {
     order.waiting
 }
 
 /// Refuses each of these orders.
-fn refused(
+fn refused_orders(
     alloc: Global,
     orders: Vec<Errand<UnixStream>>,
     refused: Refused,
     now: u64,
-) -> Result<Vec<Ordered<UnixStream>>, AllocError>
+) -> Result<Vec<AnsweredOperator<UnixStream>>, AllocError>
     ensures { IfOk result (λ told. AreToldOf (HasReply now) refused
         (waiting_of orders.items) told.items) }
 {
@@ -66,13 +66,13 @@ fn order_kept<R: Clock, K: Keep, J: Journal, S: Drop>(
     rt: &R,
     alloc: Global,
     mut keep: K,
-    last: Option<Saved>,
+    last: Option<SavedState>,
     to: Addressee<'_>,
     orders: Vec<Errand<S>>,
-    room: Room<S, Ordered<S>>,
+    room: Room<S, AnsweredOperator<S>>,
     now: u64,
     journal: &mut J,
-) -> (Vec<Ordered<S>>, Option<Saved>)
+) -> (Vec<AnsweredOperator<S>>, Option<SavedState>)
     requires { HasRoom (length orders.items) room }
     ensures { OrdersKept K.is_honest K.held K.place K.count K.load_fails K.save_fails keep to.entry
         now orders.items result.0.items result.1 }
@@ -81,7 +81,7 @@ fn order_kept<R: Clock, K: Keep, J: Journal, S: Drop>(
         Some(at) => {
             let words = words_of(alloc, journal, orders.as_slice());
             let (told, saved) = answer_all(alloc, &mut keep, last, to, orders, room, at, now);
-            journal_ordered(alloc, journal, words, told.as_slice(), &saved, at);
+            journal_order_steps(alloc, journal, words, told.as_slice(), &saved, at);
             (told, saved)
         }
         None => {
@@ -100,24 +100,24 @@ fn order_in_file<R: Locks + Clock, J: Journal>(
     rt: &R,
     alloc: Global,
     path: &str,
-    last: Option<Saved>,
+    last: Option<SavedState>,
     to: Addressee<'_>,
     orders: Vec<Errand<UnixStream>>,
     now: u64,
     journal: &mut J,
-) -> Result<Stepped, AllocError>
+) -> Result<OrdersResult, AllocError>
     ensures { IfOk result (AreOrdersStepped path.now to.entry now orders.items last) }
 {
     let room = Room::new(alloc, orders.len())?;
     match FileKeep::try_lock(rt, alloc, path) {
         Ok(Some(keep)) => {
             let (told, saved) = order_kept(rt, alloc, keep, last, to, orders, room, now, journal);
-            Ok(Stepped::Told(told, saved))
+            Ok(OrdersResult::Told(told, saved))
         }
-        Ok(None) => Ok(Stepped::LockedOut(orders, last)),
+        Ok(None) => Ok(OrdersResult::LockedOut(orders, last)),
         Err(_) => {
             let refused = Refused::LoadFailed;
-            Ok(Stepped::Told(refuse_errands(alloc, orders, room, refused, now), None))
+            Ok(OrdersResult::Told(refuse_errands(alloc, orders, room, refused, now), None))
         }
     }
 }
@@ -163,14 +163,14 @@ impl<'a, R: Locks + Net + Clock, F: Write + Drop> Server<'a, R, F> {
     fn give_operator_back(
         &mut self,
         path: &str,
-        ordered: Ordered<UnixStream>,
+        ordered: AnsweredOperator<UnixStream>,
     ) -> Result<(), AllocError>
         ensures clients { self.new.clients.all ≡ self.old.clients.all }
         ensures rest { (self.new.clients.now ≡ self.old.clients.now)
             × (self.new.lines ≡ self.old.lines) }
     {
         self.clients.tell_order(path, &ordered);
-        let Ordered { key, client, .. } = ordered;
+        let AnsweredOperator { key, client, .. } = ordered;
         self.operators.give_back(key, client)
     }
 
@@ -178,7 +178,7 @@ impl<'a, R: Locks + Net + Clock, F: Write + Drop> Server<'a, R, F> {
     fn give_operators_back(
         &mut self,
         path: &str,
-        all: Vec<Ordered<UnixStream>>,
+        all: Vec<AnsweredOperator<UnixStream>>,
     ) -> Result<(), AllocError>
         ensures clients { self.new.clients.all ≡ self.old.clients.all }
         ensures rest { (self.new.clients.now ≡ self.old.clients.now)
@@ -196,7 +196,7 @@ impl<'a, R: Locks + Net + Clock, F: Write + Drop> Server<'a, R, F> {
     {
         let response = missing_bytes(self.alloc)?;
         for order in orders {
-            let Waiting { key, asked } = giver_of(order);
+            let WaitingClient { key, asked } = giver_of(order);
             let (response, now) = (response.as_slice(), self.clients.now);
             self.operators.answer(key, asked, response, now)?;
         }
@@ -214,7 +214,7 @@ impl<'a, R: Locks + Net + Clock, F: Write + Drop> Server<'a, R, F> {
             × (self.new.lines ≡ self.old.lines) }
     {
         let (left, late) = orders_by_time(self.alloc, orders, self.clients.now)?;
-        let told = refused(self.alloc, late, Refused::LoadFailed, self.clients.now)?;
+        let told = refused_orders(self.alloc, late, Refused::LoadFailed, self.clients.now)?;
         self.give_operators_back(path, told)?;
         Ok(left)
     }
@@ -277,11 +277,11 @@ impl<'a, R: Locks + Net + Clock, F: Write + Drop> Server<'a, R, F> {
         )?;
         self.clients.tell_missed(&journal);
         match stepped {
-            Stepped::Told(told, saved) => {
+            OrdersResult::Told(told, saved) => {
                 self.give_operators_back(path, told)?;
                 self.keep_saved(path, to, saved)
             }
-            Stepped::LockedOut(orders, last) => {
+            OrdersResult::LockedOut(orders, last) => {
                 self.keep_last(path, last)?;
                 self.is_locked_out = true;
                 self.keep_orders(path, to, orders)

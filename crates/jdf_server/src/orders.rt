@@ -6,9 +6,9 @@ use crate::route::{Route, named_route};
 use crate::server::Server;
 use http_message::{Body, Method, Received, missing_bytes, path_of};
 use keepers::Locks;
-use listeners::Wanted;
+use listeners::GuestRequest;
 use mio::net::UnixStream;
-use rounds::{Errand, Waiting};
+use rounds::{Errand, WaitingClient};
 use std::alloc::{Alloc, AllocError, Global};
 use std::io::Write;
 use std::net::Net;
@@ -41,7 +41,7 @@ impl<'a, R: Locks + Net + Clock + Alloc + Clone + Drop, F: Write + Drop> Server<
     /// Takes an order for the controller of a name, if one is there.
     fn take_order(
         &mut self,
-        waiting: Waiting<UnixStream>,
+        waiting: WaitingClient<UnixStream>,
         name: &str,
         body: &Body,
     ) -> Result<(), AllocError> {
@@ -52,7 +52,7 @@ impl<'a, R: Locks + Net + Clock + Alloc + Clone + Drop, F: Write + Drop> Server<
             }
             None => {
                 let response = missing_bytes(self.alloc)?;
-                let Waiting { key, asked } = waiting;
+                let WaitingClient { key, asked } = waiting;
                 let (response, now) = (response.as_slice(), self.clients.now);
                 self.operators.answer(key, asked, response, now)
             }
@@ -60,8 +60,8 @@ impl<'a, R: Locks + Net + Clock + Alloc + Clone + Drop, F: Write + Drop> Server<
     }
 
     /// Does what one of them asked for, or has it done.
-    fn take_asked(&mut self, wanted: Wanted<UnixStream>) -> Result<(), AllocError> {
-        let Wanted {
+    fn take_asked(&mut self, wanted: GuestRequest<UnixStream>) -> Result<(), AllocError> {
+        let GuestRequest {
             key,
             asked,
             request,
@@ -76,7 +76,7 @@ impl<'a, R: Locks + Net + Clock + Alloc + Clone + Drop, F: Write + Drop> Server<
         if method == Some(Method::Post) {
             let name = path.strip_prefix(b"/").unwrap_or(path);
             let name = str::from_utf8(name).unwrap_or("");
-            return self.take_order(Waiting { key, asked }, name, &body);
+            return self.take_order(WaitingClient { key, asked }, name, &body);
         }
         let response = self.looked_response(path)?;
         let (response, now) = (response.as_slice(), self.clients.now);

@@ -3,7 +3,7 @@
 use crate::server::Server;
 use http_message::{Method, path_of};
 use keepers::Locks;
-use listeners::Wanted;
+use listeners::GuestRequest;
 use mio::net::TcpStream;
 use std::alloc::{Alloc, AllocError};
 use std::io::Write;
@@ -20,8 +20,8 @@ pub(crate) const PAGES_TIME: u64 = 10;
 
 impl<'a, R: Locks + Net + Clock + Alloc + Clone + Drop, F: Write + Drop> Server<'a, R, F> {
     /// Answers a reader.
-    fn serve_page(&mut self, wanted: Wanted<TcpStream>) -> Result<(), AllocError> {
-        let Wanted {
+    fn serve_page(&mut self, wanted: GuestRequest<TcpStream>) -> Result<(), AllocError> {
+        let GuestRequest {
             key,
             asked,
             request,

@@ -5,7 +5,7 @@ use crate::lines::keep_in;
 use crate::server::Server;
 use crate::stepping::{Look, look_in_file};
 use crate::telling::name_of;
-use crate::watched::Shown;
+use crate::watched::ControllerView;
 use controller_form::push_shown;
 use http::StatusCode;
 use http_message::{Method, page_bytes};
@@ -24,7 +24,7 @@ use std::io::Write;
 use std::net::Net;
 use std::rt::Files;
 use std::time::Clock;
-use stored_state::{AnyController, Saved};
+use stored_state::{AnyController, SavedState};
 
 const HTML: &[u8] = b"text/html; charset=utf-8";
 
@@ -52,15 +52,15 @@ const TRIED: &[u8] = b"written\n";
 
 /// What a page is made of.
 #[derive(Drop)]
-struct Made {
+struct PageContents {
     status: StatusCode,
     kind: &'static [u8],
     body: Vec<u8>,
 }
 
 /// One with a text.
-fn with_text(status: StatusCode, kind: &'static [u8], text: String) -> Made {
-    Made {
+fn with_text(status: StatusCode, kind: &'static [u8], text: String) -> PageContents {
+    PageContents {
         status,
         kind,
         body: text.into_bytes(),
@@ -68,7 +68,7 @@ fn with_text(status: StatusCode, kind: &'static [u8], text: String) -> Made {
 }
 
 /// One with a line that tells why there is no more.
-fn told(alloc: Global, status: StatusCode, line: &str) -> Result<Made, AllocError> {
+fn told_page(alloc: Global, status: StatusCode, line: &str) -> Result<PageContents, AllocError> {
     Ok(with_text(status, PLAIN, String::from_str(alloc, line)?))
 }
 
@@ -102,12 +102,12 @@ fn picture_of(alloc: Global, controller: &AnyController, now: u64) -> Result<Vec
 }
 
 /// The page of a controller, as its file is named, at a time in seconds since 1970.
-fn drawn(
+fn controller_page_of(
     alloc: Global,
     name: &str,
     controller: &AnyController,
     now: u64,
-) -> Result<Made, AllocError> {
+) -> Result<PageContents, AllocError> {
     let picture = picture_of(alloc, controller, now)?;
     match str::from_utf8(picture.as_slice()) {
         Ok(picture) => Ok(with_text(StatusCode::OK, HTML, controller_page(alloc, name, picture)?)),
@@ -116,7 +116,7 @@ fn drawn(
 }
 
 /// What a controller shows, as JSON.
-fn shown_json(alloc: Global, controller: &AnyController) -> Result<Made, AllocError> {
+fn shown_json(alloc: Global, controller: &AnyController) -> Result<PageContents, AllocError> {
     let body = match controller {
         AnyController::Master(master) => {
             let mut text = Vec::new(alloc);
@@ -127,7 +127,7 @@ fn shown_json(alloc: Global, controller: &AnyController) -> Result<Made, AllocEr
         }
         AnyController::Worker(worker) => worker_json(alloc, worker)?,
     };
-    Ok(Made {
+    Ok(PageContents {
         status: StatusCode::OK,
         kind: JSON,
         body,
@@ -135,17 +135,17 @@ fn shown_json(alloc: Global, controller: &AnyController) -> Result<Made, AllocEr
 }
 
 /// A controller as it is asked for: its picture, or what it shows.
-fn pictured_or_shown(
+fn picture_or_json(
     alloc: Global,
     name: &str,
     is_json: bool,
     controller: &AnyController,
     now: u64,
-) -> Result<Made, AllocError> {
+) -> Result<PageContents, AllocError> {
     if is_json {
         shown_json(alloc, controller)
     } else {
-        drawn(alloc, name, controller, now)
+        controller_page_of(alloc, name, controller, now)
     }
 }
 
@@ -155,18 +155,18 @@ fn look_response(
     name: &str,
     is_json: bool,
     look: Look,
-    last: &Option<Saved>,
+    last: &Option<SavedState>,
     now: u64,
-) -> Result<Made, AllocError> {
+) -> Result<PageContents, AllocError> {
     match (look, last) {
         (Look::Found(found), _) => {
-            pictured_or_shown(alloc, name, is_json, found.controller(), now)
+            picture_or_json(alloc, name, is_json, found.controller(), now)
         }
         (Look::Same | Look::LockedOut, Some(saved)) => {
-            pictured_or_shown(alloc, name, is_json, saved.controller(), now)
+            picture_or_json(alloc, name, is_json, saved.controller(), now)
         }
-        (Look::LockedOut, None) => told(alloc, StatusCode::SERVICE_UNAVAILABLE, LOCKED),
-        _ => told(alloc, StatusCode::NOT_FOUND, NO_CONTROLLER),
+        (Look::LockedOut, None) => told_page(alloc, StatusCode::SERVICE_UNAVAILABLE, LOCKED),
+        _ => told_page(alloc, StatusCode::NOT_FOUND, NO_CONTROLLER),
     }
 }
 
@@ -189,7 +189,7 @@ impl<'a, R: Locks + Net + Clock + Alloc + Clone + Drop, F: Write + Drop> Server<
         &'t self,
         number: usize,
         path: &'t str,
-        shown: &'t Shown,
+        shown: &'t ControllerView,
         work: &'t Work,
     ) -> OpenWork<'t> {
         OpenWork {
@@ -221,7 +221,7 @@ impl<'a, R: Locks + Net + Clock + Alloc + Clone + Drop, F: Write + Drop> Server<
         &'t self,
         number: usize,
         path: &'t str,
-        shown: &'t Shown,
+        shown: &'t ControllerView,
         now: u64,
     ) -> OfController<'t> {
         let mut gauges = OfController {
@@ -278,22 +278,22 @@ impl<'a, R: Locks + Net + Clock + Alloc + Clone + Drop, F: Write + Drop> Server<
         shop
     }
 
-    fn shop_response(&self, now: u64) -> Result<Made, AllocError> {
+    fn shop_response(&self, now: u64) -> Result<PageContents, AllocError> {
         let works = self.open_works()?;
         let page = shop_page(self.alloc, &self.shop_at(now), works.as_slice())?;
         Ok(with_text(StatusCode::OK, HTML, page))
     }
 
-    fn list_response(&self, now: u64) -> Result<Made, AllocError> {
+    fn list_response(&self, now: u64) -> Result<PageContents, AllocError> {
         let works = self.open_works()?;
-        Ok(Made {
+        Ok(PageContents {
             status: StatusCode::OK,
             kind: JSON,
             body: list_json(self.alloc, &self.shop_at(now), works.as_slice())?,
         })
     }
 
-    fn metrics_response(&self, now: u64) -> Result<Made, AllocError> {
+    fn metrics_response(&self, now: u64) -> Result<PageContents, AllocError> {
         let works = self.open_works()?;
         let shop = self.shop_at(now);
         let gauges = Gauges {
@@ -322,17 +322,17 @@ impl<'a, R: Locks + Net + Clock + Alloc + Clone + Drop, F: Write + Drop> Server<
 
     /// Whether the shop can go on: its folder can be written, and where it has files a controller
     /// was read of one.
-    fn health_response(&mut self) -> Result<Made, AllocError> {
+    fn health_response(&mut self) -> Result<PageContents, AllocError> {
         if !self.is_written()? {
             let line = "the folder of the controllers can't be written\n";
-            return told(self.alloc, StatusCode::SERVICE_UNAVAILABLE, line);
+            return told_page(self.alloc, StatusCode::SERVICE_UNAVAILABLE, line);
         }
         let shop = self.shop_at(0);
         if shop.controllers == 0 && shop.unread > 0 {
             let line = "no file holds a controller of its name\n";
-            return told(self.alloc, StatusCode::SERVICE_UNAVAILABLE, line);
+            return told_page(self.alloc, StatusCode::SERVICE_UNAVAILABLE, line);
         }
-        told(self.alloc, StatusCode::OK, "ok\n")
+        told_page(self.alloc, StatusCode::OK, "ok\n")
     }
 
     /// The number of the controller whose file is named so in what is served.
@@ -355,12 +355,12 @@ impl<'a, R: Locks + Net + Clock + Alloc + Clone + Drop, F: Write + Drop> Server<
         name: &str,
         is_json: bool,
         now: u64,
-    ) -> Result<Made, AllocError> {
+    ) -> Result<PageContents, AllocError> {
         let Some(number) = self.number_of(name)? else {
-            return told(self.alloc, StatusCode::NOT_FOUND, NO_CONTROLLER);
+            return told_page(self.alloc, StatusCode::NOT_FOUND, NO_CONTROLLER);
         };
         let Some((path, seat)) = self.watched.controllers.get_index(number) else {
-            return told(self.alloc, StatusCode::NOT_FOUND, NO_CONTROLLER);
+            return told_page(self.alloc, StatusCode::NOT_FOUND, NO_CONTROLLER);
         };
         let last = self.saved.take(path.as_str());
         let to = seat.owner.as_addressee();
@@ -371,7 +371,7 @@ impl<'a, R: Locks + Net + Clock + Alloc + Clone + Drop, F: Write + Drop> Server<
     }
 
     /// What a path names.
-    fn made_of(&mut self, path: &str, now: u64) -> Result<Made, AllocError> {
+    fn made_of(&mut self, path: &str, now: u64) -> Result<PageContents, AllocError> {
         match path {
             "/" => self.shop_response(now),
             "/list.json" => self.list_response(now),
@@ -390,14 +390,14 @@ impl<'a, R: Locks + Net + Clock + Alloc + Clone + Drop, F: Write + Drop> Server<
     /// The response to one who looks over the local socket: `/list`, or what a controller shows.
     pub(crate) fn looked_response(&mut self, path: &[u8]) -> Result<Vec<u8>, AllocError> {
         let now = seconds(self.rt).unwrap_or(0);
-        let Made { status, kind, body } = match str::from_utf8(path) {
+        let PageContents { status, kind, body } = match str::from_utf8(path) {
             Ok("/list") => self.list_response(now)?,
             Ok(path) => self.controller_response(
                 path.strip_prefix("/").unwrap_or(path),
                 true,
                 now,
             )?,
-            Err(_) => told(self.alloc, StatusCode::NOT_FOUND, NO_CONTROLLER)?,
+            Err(_) => told_page(self.alloc, StatusCode::NOT_FOUND, NO_CONTROLLER)?,
         };
         page_bytes(self.alloc, Method::Get, status, kind, b"", body.as_slice())
     }
@@ -409,9 +409,9 @@ impl<'a, R: Locks + Net + Clock + Alloc + Clone + Drop, F: Write + Drop> Server<
         path: &[u8],
     ) -> Result<Vec<u8>, AllocError> {
         let now = seconds(self.rt).unwrap_or(0);
-        let Made { status, kind, body } = match str::from_utf8(path) {
+        let PageContents { status, kind, body } = match str::from_utf8(path) {
             Ok(path) => self.made_of(path, now)?,
-            Err(_) => told(self.alloc, StatusCode::NOT_FOUND, "no such page\n")?,
+            Err(_) => told_page(self.alloc, StatusCode::NOT_FOUND, "no such page\n")?,
         };
         page_bytes(self.alloc, method, status, kind, b"", body.as_slice())
     }

@@ -28,7 +28,7 @@ pub struct Post {
     /// The destinations by their URLs, in the order of their numbers.
     pub(crate) targets: IndexMap<String, Destination>,
     pub(crate) houses: Houses,
-    pub(crate) calls: Slab<Flying>,
+    pub(crate) calls: Slab<CallInFlight>,
     /// The calls whose streams may have something or take something.
     pub(crate) ready: Vec<usize>,
 }
@@ -60,7 +60,7 @@ impl Post {
 
 /// A call that carries something to its destination.
 #[derive(Drop)]
-pub(crate) struct Flying {
+pub(crate) struct CallInFlight {
     pub parcel: Parcel,
     /// The path of the file of the controller from which it goes out.
     pub path: String,

@@ -6,8 +6,8 @@ use crate::line::Line;
 use crate::own::{Own, Parcel, Task};
 use crate::post::Post;
 use crate::server::Server;
-use crate::stepping::{OwnStepped, step_own_in_file};
-use crate::watched::{Shown, Watched};
+use crate::stepping::{OwnStepResult, step_own_in_file};
+use crate::watched::{ControllerView, ControllerViews};
 use deliveries::Flight;
 use indexmap::IndexMap;
 use journal::FileJournal;
@@ -18,7 +18,7 @@ use std::alloc::{AllocError, Global};
 use std::io::Write;
 use std::net::Net;
 use std::time::Clock;
-use stored_state::{AnyController, Coming, Saved, TakenBytes};
+use stored_state::{AnyController, Coming, SavedState, TakenBytes};
 use ticket_tree::{Id, Refusal, SpawnId};
 
 /// How much goes out in one round at most.
@@ -90,7 +90,7 @@ impl Post {
     fn fail_all(&mut self, now: u64) {
         for line in 0..self.deliveries.destinations() {
             if self.deliveries.flies(line) {
-                self.deliveries.failed(line, now);
+                self.deliveries.fail_flight(line, now);
             }
         }
     }
@@ -125,7 +125,7 @@ impl Post {
 fn join_own(
     alloc: Global,
     lines: &mut IndexMap<String, Line>,
-    watched: &Watched,
+    watched: &ControllerViews,
     path: String,
     own: Own,
 ) -> Result<(), AllocError> {
@@ -221,7 +221,7 @@ impl<'a, R: Locks + Net + Clock, F: Write + Drop> Server<'a, R, F> {
     ) -> Result<(), AllocError>
         ensures { self.new.clients.all ≡ self.old.clients.all }
     {
-        let Some((is_taken, sent)) = given_by(came) else {
+        let Some((is_taken, sent)) = output_of(came) else {
             self.fail(path, &mark.parcel);
             return Ok(());
         };
@@ -283,7 +283,7 @@ impl<'a, R: Locks + Net + Clock, F: Write + Drop> Server<'a, R, F> {
     fn keep_one(&mut self, path: &str, mark: &Mark, coming: Coming) -> Result<(), AllocError>
         ensures { self.new.clients.all ≡ self.old.clients.all }
     {
-        match joined(mark, coming) {
+        match own_of(mark, coming) {
             Some(own) if mark.until > self.clients.now => {
                 self.join_own(String::from_str(self.alloc, path)?, own)
             }
@@ -349,17 +349,17 @@ impl<'a, R: Locks + Net + Clock, F: Write + Drop> Server<'a, R, F> {
         );
         self.clients.tell_missed(&journal);
         match stepped {
-            OwnStepped::Stepped(given, saved) => {
+            OwnStepResult::Stepped(given, saved) => {
                 let kept = self.keep_saved(path, to, saved);
                 self.follow_all(path, marks, given)?;
                 kept
             }
-            OwnStepped::LockedOut(comings, last) => {
+            OwnStepResult::LockedOut(comings, last) => {
                 self.keep_last(path, last)?;
                 self.is_locked_out = true;
                 self.keep_own(path, marks, comings)
             }
-            OwnStepped::Failed => {
+            OwnStepResult::Failed => {
                 self.put_off_all(path, marks);
                 Ok(())
             }
@@ -375,7 +375,7 @@ impl<'a, R: Locks + Net + Clock, F: Write + Drop> Server<'a, R, F> {
         ensures { self.new.clients.all ≡ self.old.clients.all }
     {
         if self.is_shown() {
-            let shown = Shown::of(self.alloc, controller)?;
+            let shown = ControllerView::of(self.alloc, controller)?;
             self.watched.show(number, Some(shown));
         }
         match &mut self.post {
@@ -385,7 +385,7 @@ impl<'a, R: Locks + Net + Clock, F: Write + Drop> Server<'a, R, F> {
     }
 
     /// Sees what a controller has out now, as it was saved.
-    fn see_saved(&mut self, path: &str, to: &Owner, saved: &Saved) -> Result<(), AllocError>
+    fn see_saved(&mut self, path: &str, to: &Owner, saved: &SavedState) -> Result<(), AllocError>
         ensures { self.new.clients.all ≡ self.old.clients.all }
     {
         if !self.watches() {
@@ -400,7 +400,7 @@ impl<'a, R: Locks + Net + Clock, F: Write + Drop> Server<'a, R, F> {
         &mut self,
         path: &str,
         to: &Owner,
-        saved: Option<Saved>,
+        saved: Option<SavedState>,
     ) -> Result<(), AllocError>
         ensures { self.new.clients.all ≡ self.old.clients.all }
     {
@@ -425,7 +425,7 @@ struct Mark {
 }
 
 /// Whether a step was accepted, and the text that goes out; none where no step was made.
-fn given_by(came: Result<TakenBytes, Refusal>) -> Option<(bool, Option<Vec<u8>>)> {
+fn output_of(came: Result<TakenBytes, Refusal>) -> Option<(bool, Option<Vec<u8>>)> {
     match came {
         Ok(taken) => {
             let TakenBytes {
@@ -441,7 +441,7 @@ fn given_by(came: Result<TakenBytes, Refusal>) -> Option<(bool, Option<Vec<u8>>)
 }
 
 /// What is to be done, of what was kept of it and what its controller is told.
-fn joined(mark: &Mark, coming: Coming) -> Option<Own> {
+fn own_of(mark: &Mark, coming: Coming) -> Option<Own> {
     let task = match coming {
         Coming::Order(text) => Task::Send(text),
         Coming::Message(message) => Task::Take(message, mark.refusal),
@@ -454,7 +454,7 @@ fn joined(mark: &Mark, coming: Coming) -> Option<Own> {
     })
 }
 
-fn parted(own: Own) -> (Mark, Coming) {
+fn parts_of_own(own: Own) -> (Mark, Coming) {
     let Own {
         parcel,
         task,
@@ -486,7 +486,7 @@ fn all_parted(alloc: Global, own: Vec<Own>) -> Result<(Vec<Mark>, Vec<Coming>), 
     let mut marks = Vec::with_capacity(alloc, own.len())?;
     let mut comings = Vec::with_capacity(alloc, own.len())?;
     for one in own {
-        let (mark, coming) = parted(one);
+        let (mark, coming) = parts_of_own(one);
         marks.push(mark)?;
         comings.push(coming)?;
     }

@@ -81,7 +81,7 @@ fn named_file(alloc: Global, folder: &str, name: &str) -> Result<Option<Route>, 
     let file = file_for(alloc, folder, Lies::File, name, name)?;
     match file {
         Some(path) => {
-            let to = Owner::Named(Id::known(alloc, name)?);
+            let to = Owner::Named(Id::from_valid(alloc, name)?);
             Ok(Some(Route { path, to }))
         }
         None => Ok(None),
@@ -103,8 +103,8 @@ fn named_worker(
     let file = file_for(alloc, folder, Lies::Folder, worker, master)?;
     match file {
         Some(path) => {
-            let name = Id::known(alloc, worker)?;
-            let to = Owner::WorkerOf(name, Id::known(alloc, master)?);
+            let name = Id::from_valid(alloc, worker)?;
+            let to = Owner::WorkerOf(name, Id::from_valid(alloc, master)?);
             Ok(Some(Route { path, to }))
         }
         None => Ok(None),

@@ -2,7 +2,7 @@ use crate::clients::Clients;
 use crate::health::Health;
 use crate::line::Line;
 use crate::post::Post;
-use crate::watched::Watched;
+use crate::watched::ControllerViews;
 use indexmap::IndexMap;
 use listeners::{Guests, Moments, OrderListener, PageListener};
 use mio::{Events, Poll};
@@ -38,7 +38,7 @@ pub struct Server<'a, R, F> {
     pub(crate) is_locked_out: bool,
     pub(crate) saved: SavedStates,
     /// The controllers, as their files were looked at last.
-    pub(crate) watched: Watched,
+    pub(crate) watched: ControllerViews,
     /// What goes out by itself, where other controllers are known.
     pub(crate) post: Option<Post>,
 }

@@ -7,28 +7,30 @@ ghost use Rattle.jdf_server.specs.Steps.{IsStepped, StepsKept};
 ghost use Rattle.jdf_server.specs.Journaled.{KeepsJournal, KeepsJournalIn, KeepsOwnJournal};
 ghost use Rattle.jdf_server.specs.Journaled.{OwnStepsKept};
 
-use crate::journaling::{calls_of_comings, calls_of_errands, journal_answered, journal_given};
+use crate::journaling::{
+    calls_of_comings, calls_of_errands, journal_clients_steps, journal_own_steps,
+};
 use journal::{Journal, seconds};
 use keepers::{FileKeep, Keep, KeepFault, Locks};
 use mio::net::TcpStream;
-use rounds::{Answered, Errand, Room, answer_all, refuse_errands};
+use rounds::{AnsweredClient, Errand, Room, answer_all, refuse_errands};
 use std::alloc::{AllocError, Global};
 use std::fs;
 use std::io::ErrorKind;
 use std::rt::Files;
 use std::time::Clock;
-use stored_state::{Addressee, Coming, Kept, Saved, Snapshot, TakenBytes, open_any, take_all};
+use stored_state::{Addressee, Coming, Kept, SavedState, Snapshot, TakenBytes, open_any, take_all};
 use streams::Refused;
 use ticket_tree::{Duplicate, Id, Refusal};
 use worker_core::Worker;
 
 /// What came of those who wait for a controller.
 #[derive(Drop)]
-pub(crate) enum Stepped {
+pub(crate) enum StepsResult {
     /// Each has the response; and the controller as it was saved, if it was.
-    Answered(Vec<Answered<TcpStream>>, Option<Saved>),
+    Answered(Vec<AnsweredClient<TcpStream>>, Option<SavedState>),
     /// Somebody else has its file locked, and nothing was done.
-    LockedOut(Vec<Errand<TcpStream>>, Option<Saved>),
+    LockedOut(Vec<Errand<TcpStream>>, Option<SavedState>),
 }
 
 /// Whether the system says that nothing is there under a path. No contract says more: others may
@@ -48,13 +50,13 @@ fn step_kept<R: Clock, K: Keep, J: Journal, S: Drop>(
     rt: &R,
     alloc: Global,
     mut keep: K,
-    last: Option<Saved>,
+    last: Option<SavedState>,
     to: Addressee<'_>,
     errands: Vec<Errand<S>>,
-    room: Room<S, Answered<S>>,
+    room: Room<S, AnsweredClient<S>>,
     now: u64,
     journal: &mut J,
-) -> (Vec<Answered<S>>, Option<Saved>)
+) -> (Vec<AnsweredClient<S>>, Option<SavedState>)
     requires { HasRoom (length errands.items) room }
     ensures steps { StepsKept K.is_honest K.held K.place K.count K.load_fails K.save_fails keep
         to.entry now errands.items result.0.items result.1 }
@@ -66,7 +68,7 @@ fn step_kept<R: Clock, K: Keep, J: Journal, S: Drop>(
         Some(at) => {
             let calls = calls_of_errands(alloc, journal, errands.as_slice());
             let (answered, saved) = answer_all(alloc, &mut keep, last, to, errands, room, at, now);
-            journal_answered(alloc, journal, calls, answered.as_slice(), &saved, at);
+            journal_clients_steps(alloc, journal, calls, answered.as_slice(), &saved, at);
             (answered, saved)
         }
         None => {
@@ -85,12 +87,12 @@ pub(crate) fn step_in_file<R: Locks + Clock, J: Journal>(
     rt: &R,
     alloc: Global,
     path: &str,
-    last: Option<Saved>,
+    last: Option<SavedState>,
     to: Addressee<'_>,
     errands: Vec<Errand<TcpStream>>,
     now: u64,
     journal: &mut J,
-) -> Result<Stepped, AllocError>
+) -> Result<StepsResult, AllocError>
     // Proved: Those who wait for the controller in a file are answered as `answer_all` says, by
     // the keeper in the file of this path, if that holds one that is addressed, at some time; or
     // each is refused with 503; or somebody else has the file locked, and they wait on.
@@ -113,12 +115,12 @@ pub(crate) fn step_in_file<R: Locks + Clock, J: Journal>(
             let (answered, saved) = step_kept(
                 rt, alloc, keep, last, to, errands, room, now, journal,
             );
-            Ok(Stepped::Answered(answered, saved))
+            Ok(StepsResult::Answered(answered, saved))
         }
-        Ok(None) => Ok(Stepped::LockedOut(errands, last)),
+        Ok(None) => Ok(StepsResult::LockedOut(errands, last)),
         Err(_) => {
             let refused = Refused::LoadFailed;
-            Ok(Stepped::Answered(refuse_errands(alloc, errands, room, refused, now), None))
+            Ok(StepsResult::Answered(refuse_errands(alloc, errands, room, refused, now), None))
         }
     }
 }
@@ -157,11 +159,11 @@ pub(crate) fn begin_in_file<R: Locks>(
 
 /// What came of something that no client waits for.
 #[derive(Drop)]
-pub(crate) enum OwnStepped {
+pub(crate) enum OwnStepResult {
     /// What each gave out; and the controller as it was saved, if it was.
-    Stepped(Vec<Result<TakenBytes, Refusal>>, Option<Saved>),
+    Stepped(Vec<Result<TakenBytes, Refusal>>, Option<SavedState>),
     /// Somebody else has the file locked, and nothing was done.
-    LockedOut(Vec<Coming>, Option<Saved>),
+    LockedOut(Vec<Coming>, Option<SavedState>),
     /// Nothing was done: the file can't be loaded or saved.
     Failed,
 }
@@ -172,12 +174,12 @@ pub(crate) enum OwnStepped {
 fn step_own_kept<K: Keep, J: Journal>(
     alloc: Global,
     mut keep: K,
-    last: Option<Saved>,
+    last: Option<SavedState>,
     to: Addressee<'_>,
     all: Vec<Coming>,
     at: u64,
     journal: &mut J,
-) -> OwnStepped
+) -> OwnStepResult
     ensures steps { OwnStepsKept K.is_honest K.held keep to.entry at all.items result }
     ensures journaled { J.is_honest journal.old ≡ true
         → KeepsOwnJournal J.held J.is_missed at all.items journal.old journal.new result }
@@ -185,10 +187,10 @@ fn step_own_kept<K: Keep, J: Journal>(
     let calls = calls_of_comings(alloc, journal, all.as_slice());
     match take_all(alloc, &mut keep, last, to, all, at) {
         Ok((given, saved)) => {
-            journal_given(alloc, journal, calls, given.as_slice(), &saved, at);
-            OwnStepped::Stepped(given, saved)
+            journal_own_steps(alloc, journal, calls, given.as_slice(), &saved, at);
+            OwnStepResult::Stepped(given, saved)
         }
-        Err(_) => OwnStepped::Failed,
+        Err(_) => OwnStepResult::Failed,
     }
 }
 
@@ -197,16 +199,16 @@ fn step_own_kept<K: Keep, J: Journal>(
 fn step_own_found<K: Keep, J: Journal>(
     alloc: Global,
     found: Result<Option<K>, KeepFault>,
-    last: Option<Saved>,
+    last: Option<SavedState>,
     to: Addressee<'_>,
     all: Vec<Coming>,
     at: u64,
     journal: &mut J,
-) -> OwnStepped {
+) -> OwnStepResult {
     match found {
         Ok(Some(keep)) => step_own_kept(alloc, keep, last, to, all, at, journal),
-        Ok(None) => OwnStepped::LockedOut(all, last),
-        Err(_) => OwnStepped::Failed,
+        Ok(None) => OwnStepResult::LockedOut(all, last),
+        Err(_) => OwnStepResult::Failed,
     }
 }
 
@@ -216,13 +218,13 @@ pub(crate) fn step_own_in_file<R: Locks + Clock, J: Journal>(
     rt: &R,
     alloc: Global,
     path: &str,
-    last: Option<Saved>,
+    last: Option<SavedState>,
     to: Addressee<'_>,
     all: Vec<Coming>,
     journal: &mut J,
-) -> OwnStepped {
+) -> OwnStepResult {
     let Some(at) = seconds(rt) else {
-        return OwnStepped::Failed;
+        return OwnStepResult::Failed;
     };
     let found = FileKeep::try_lock(rt, alloc, path);
     step_own_found(alloc, found, last, to, all, at, journal)
@@ -242,7 +244,7 @@ pub(crate) enum Look {
 }
 
 /// Whether a keeper holds the text that was saved last.
-fn holds_saved<K: Keep>(keep: &mut K, last: &Option<Saved>) -> bool {
+fn holds_saved<K: Keep>(keep: &mut K, last: &Option<SavedState>) -> bool {
     match (last, keep.load()) {
         (Some(saved), Ok(bytes)) => saved.text() == bytes.as_slice(),
         _ => false,
@@ -254,7 +256,7 @@ fn look_at<K: Keep>(
     alloc: Global,
     found: Result<Option<K>, KeepFault>,
     to: Addressee<'_>,
-    last: &Option<Saved>,
+    last: &Option<SavedState>,
 ) -> Look {
     match found {
         Ok(Some(mut keep)) => {
@@ -277,7 +279,7 @@ pub(crate) fn look_in_file<R: Locks>(
     alloc: Global,
     path: &str,
     to: Addressee<'_>,
-    last: &Option<Saved>,
+    last: &Option<SavedState>,
 ) -> Look {
     look_at(alloc, FileKeep::try_lock(rt, alloc, path), to, last)
 }

@@ -9,7 +9,7 @@ use crate::note::Note;
 use http_edge::Served;
 use journal::{FileJournal, seconds};
 use mio::net::UnixStream;
-use rounds::{Ordered, TakenFrom};
+use rounds::{AnsweredOperator, Receipt};
 use shop_folder::Place;
 use std::alloc::{AllocError, Global};
 use std::io::Write;
@@ -49,7 +49,7 @@ pub(crate) fn name_of<'t>(place: &Place<'_>, path: &'t str) -> &'t str {
 /// of neither.
 fn what_text(
     alloc: Global,
-    taken: &Option<TakenFrom>,
+    taken: &Option<Receipt>,
     refusal: Option<Refused>,
 ) -> Result<String, AllocError> {
     if let Some(refused) = &refusal {
@@ -127,7 +127,7 @@ fn order_line(
     alloc: Global,
     at: u64,
     name: &str,
-    ordered: &Ordered<UnixStream>,
+    ordered: &AnsweredOperator<UnixStream>,
 ) -> Result<String, AllocError> {
     let Served { status, refusal } = ordered.told;
     if let Some(refused) = &refusal {
@@ -173,7 +173,7 @@ impl<'a, R: Clock, F: Write + Drop> Clients<'a, R, F> {
 
     /// Writes the line of an order: the time, `order`, its controller, the status of the response,
     /// and what it was taken as or the refusal that was met.
-    pub(crate) fn tell_order(&mut self, path: &str, ordered: &Ordered<UnixStream>)
+    pub(crate) fn tell_order(&mut self, path: &str, ordered: &AnsweredOperator<UnixStream>)
         ensures clients { self.new.all ≡ self.old.all }
         ensures moment { self.new.now ≡ self.old.now }
     {

@@ -11,7 +11,7 @@ use crate::server::{MAX_EVENTS, Server};
 use keepers::Locks;
 use mio::net::TcpStream;
 use peers::Turn;
-use rounds::Waiting;
+use rounds::WaitingClient;
 use std::alloc::AllocError;
 use std::io::Write;
 use std::net::Net;
@@ -82,8 +82,13 @@ impl<'a, R: Locks + Net + Clock, F: Write + Drop> Server<'a, R, F> {
                 self.clients.put_back(key, client);
                 Ok(self.clients.ready.push(key)?)
             }
-            Turn::Request(asked, request) => self.stand_in_line(Waiting { key, asked }, request),
-            Turn::Refused(asked, refused) => self.clients.refuse(Waiting { key, asked }, refused),
+            Turn::Request(asked, request) => self.stand_in_line(
+                WaitingClient { key, asked },
+                request,
+            ),
+            Turn::Refused(asked, refused) => self
+                .clients
+                .refuse(WaitingClient { key, asked }, refused),
             Turn::Written(client) => self.clients.linger(key, client),
             Turn::Closed => {
                 self.clients.let_go(key);

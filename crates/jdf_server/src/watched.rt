@@ -10,7 +10,7 @@ use ticket_tree::Id;
 
 /// What a page tells of a controller.
 #[derive(Drop)]
-pub(crate) struct Shown {
+pub(crate) struct ControllerView {
     pub name: Id,
     /// What is open, in the order in which it went out or came.
     pub open: Vec<Work>,
@@ -18,9 +18,12 @@ pub(crate) struct Shown {
     pub closed: usize,
 }
 
-impl Shown {
+impl ControllerView {
     /// What is told of this controller.
-    pub(crate) fn of(alloc: Global, controller: &AnyController) -> Result<Shown, AllocError> {
+    pub(crate) fn of(
+        alloc: Global,
+        controller: &AnyController,
+    ) -> Result<ControllerView, AllocError> {
         let mut open = Vec::new(alloc);
         let all = match controller {
             AnyController::Master(master) => {
@@ -33,7 +36,7 @@ impl Shown {
             }
         };
         let closed = all.saturating_sub(open.len());
-        Ok(Shown {
+        Ok(ControllerView {
             name: controller.name().clone()?,
             open,
             closed,
@@ -51,12 +54,12 @@ pub(crate) struct Seat {
     pub is_there: bool,
     /// What a page tells of it; nothing where its file holds no controller of its name, or wasn't
     /// read yet.
-    pub shown: Option<Shown>,
+    pub shown: Option<ControllerView>,
 }
 
 /// All of them.
 #[derive(Drop)]
-pub(crate) struct Watched {
+pub(crate) struct ControllerViews {
     /// By the paths of their files, in the order of their numbers.
     pub controllers: IndexMap<String, Seat>,
     /// The numbers of those whose files are to be read.
@@ -65,10 +68,10 @@ pub(crate) struct Watched {
     pub look_at: u64,
 }
 
-impl Watched {
+impl ControllerViews {
     /// None is known yet.
-    pub(crate) fn new(alloc: Global) -> Watched {
-        Watched {
+    pub(crate) fn new(alloc: Global) -> ControllerViews {
+        ControllerViews {
             controllers: IndexMap::new(alloc),
             unread: Vec::new(alloc),
             look_at: 0,
@@ -119,7 +122,7 @@ impl Watched {
     }
 
     /// Has a page tell this of a controller.
-    pub(crate) fn show(&mut self, number: usize, shown: Option<Shown>) {
+    pub(crate) fn show(&mut self, number: usize, shown: Option<ControllerView>) {
         if let Some(seat) = self.controllers.get_index_mut(number) {
             seat.shown = shown;
         } else {

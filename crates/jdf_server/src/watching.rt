@@ -14,7 +14,7 @@ use std::net::Net;
 use std::rt::Files;
 use std::time::{Clock, SystemTime};
 use std::{fs, mem};
-use stored_state::Saved;
+use stored_state::SavedState;
 
 /// After how many milliseconds the files are looked at again.
 const LOOK_TIME: u64 = 1_000;
@@ -155,7 +155,7 @@ impl<'a, R: Locks + Net + Clock + Alloc + Clone + Drop, F: Write + Drop> Server<
         &mut self,
         number: usize,
         look: &Look,
-        last: &Option<Saved>,
+        last: &Option<SavedState>,
     ) -> Result<(), AllocError> {
         match (look, last) {
             (Look::Found(found), _) => self.see_controller(number, found.controller()),

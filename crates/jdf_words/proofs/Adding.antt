@@ -4,10 +4,10 @@ use Rattle.clap.specs.Words.{AddsArg, AddsSubcommand, App, Rule, Shape, app_of, 
 use Rattle.clap.specs.declared.builder.arg.Arg.{Arg}
 use Rattle.clap.specs.declared.Command.{Command}
 use Rattle.clap.proofs.SimpleLemmas.{plain_fields}
-use Rattle.jdf_words.specs.Commands.{alone}
+use Rattle.jdf_words.specs.Commands.{lone_command}
 
 -- one more command of the program
-pub added : (old sub new : Command) (above : App) (s : Shape) → AddsSubcommand old sub new → app_of old ≡ above → app_of sub ≡ alone s → s.is_plain ≡ true
+pub added : (old sub new : Command) (above : App) (s : Shape) → AddsSubcommand old sub new → app_of old ≡ above → app_of sub ≡ lone_command s → s.is_plain ≡ true
     → app_of new ≡ with_subcommand above s
 added old sub new above s adds before is plain =
     adds.shape (plain_fields sub (ap (λ (a : App). a.top.is_plain) is ∙ plain)).globals ∙ ap₂ with_subcommand before (ap (λ (a : App). a.top) is)

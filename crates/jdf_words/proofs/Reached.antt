@@ -18,7 +18,7 @@ use Rattle.clap.specs.declared.parser.matches.ValueSource.{ValueSource}
 use Rattle.clap.specs.declared.parser.matches.ValueSource.TheVariants.{CommandLine}
 use Rattle.clap.proofs.ValueTestLemmas.{accepts-Accepts}
 use Rattle.jdf_words.specs.Calls.{HasAt, HasFile, HasServing, HasText, IsCall, IsWithin, MayHaveAt}
-use Rattle.jdf_words.specs.Commands.{bare, command, edit_rules, jdf, list_rules, new_rules, order_rules, refusal_rule, send_rules, serve_rules, show_rules, take_rules}
+use Rattle.jdf_words.specs.Commands.{command, edit_rules, jdf, list_rules, new_rules, order_rules, program_without_commands, refusal_rule, send_rules, serve_rules, show_rules, take_rules}
 use Rattle.jdf_words.proofs.Walks.{AsksNoHelp, IsIn, IsMade, IsPlainRule, found_in, level_passed, made}
 
 -- an element that is found has what each has
@@ -60,7 +60,7 @@ given_row c id rows all given = go (find (λ r. bytes_eq r.id id) rows) refl giv
 
 -- a command of the program, as it is built
 abbrev leaf : Text → List Rule → Shape
-leaf name arguments = built_leaf (inherited bare.top (command name arguments))
+leaf name arguments = built_leaf (inherited program_without_commands.top (command name arguments))
 
 abbrev beginning : Shape
 beginning = leaf (codes "new") new_rules

@@ -145,13 +145,13 @@ abbrev pub command : Text → List Rule → Shape
 command name arguments = record (new_shape name) { rules = arguments }
 
 -- a command before it is one of the program's
-abbrev pub alone : Shape → App
-alone of_name = record { top = of_name; subs = [] }
+abbrev pub lone_command : Shape → App
+lone_command of_name = record { top = of_name; subs = [] }
 
 -- the program before it has commands: its words come without its name, and name a command; it
 -- tells its version
-abbrev pub bare : App
-bare = alone (record (new_shape (codes "jdf_cli")) {
+abbrev pub program_without_commands : App
+program_without_commands = lone_command (record (new_shape (codes "jdf_cli")) {
   no_binary_name = true;
   subcommand_required = true;
   has_version = true;
@@ -160,7 +160,7 @@ bare = alone (record (new_shape (codes "jdf_cli")) {
 -- the program, with its commands
 unfoldable pub jdf : App
 jdf = record {
-  top = record bare.top { is_leaf = false };
+  top = record program_without_commands.top { is_leaf = false };
   subs = command (codes "edit") edit_rules
       ∷ command (codes "world") []
       ∷ command (codes "loop") []

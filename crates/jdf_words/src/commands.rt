@@ -2,7 +2,8 @@
 
 ghost use Rattle.std.specs.Prelude.{◌≡◌, [], ◌∷◌, IfOk, Some, codes, false, true};
 ghost use Rattle.clap.specs.Words.{App, Shape, app_of, rule_of, with_subcommand};
-ghost use Rattle.jdf_words.specs.Commands.{all_rule, alone, at_rule, bare, body_rule, check_rules};
+ghost use Rattle.jdf_words.specs.Commands.{all_rule, at_rule, body_rule, check_rules, lone_command};
+ghost use Rattle.jdf_words.specs.Commands.{program_without_commands};
 ghost use Rattle.jdf_words.specs.Commands.{clients_rule, command, edit_rules, file_rule, flag_rule};
 ghost use Rattle.jdf_words.specs.Commands.{from_rule, jdf, journal_rule, kind_rule, limit_rule};
 ghost use Rattle.jdf_words.specs.Commands.{list_rules, listen_rule, memory_rule, message_rule};
@@ -285,7 +286,7 @@ fn message_argument<'a>(alloc: Global) -> Arg<'a>
 
 /// A command with no argument.
 fn plain_command<'a>(alloc: Global, name: &'a str, help: Help) -> Command<'a>
-    ensures { app_of result ≡ alone (command name.entry.now []) }
+    ensures { app_of result ≡ lone_command (command name.entry.now []) }
 {
     Command::new(alloc, name)
         .about(help.about)
@@ -296,7 +297,7 @@ fn plain_command<'a>(alloc: Global, name: &'a str, help: Help) -> Command<'a>
 /// A command on a FILE.
 fn file_command<'a>(alloc: Global, name: &'a str, help: Help) -> Result<Command<'a>, AllocError>
     ensures { IfOk result (λ made. app_of made
-        ≡ alone (command name.entry.now (file_rule ∷ []))) }
+        ≡ lone_command (command name.entry.now (file_rule ∷ []))) }
 {
     plain_command(alloc, name, help).arg(file_argument(alloc))
 }
@@ -304,28 +305,29 @@ fn file_command<'a>(alloc: Global, name: &'a str, help: Help) -> Result<Command<
 /// A command on a FILE at a time.
 fn timed_command<'a>(alloc: Global, name: &'a str, help: Help) -> Result<Command<'a>, AllocError>
     ensures { IfOk result (λ made. app_of made
-        ≡ alone (command name.entry.now (file_rule ∷ at_rule ∷ []))) }
+        ≡ lone_command (command name.entry.now (file_rule ∷ at_rule ∷ []))) }
 {
     file_command(alloc, name, help)?.arg(at_argument(alloc))
 }
 
 /// The command that edits a ticket.
 fn edit_command<'a>(alloc: Global) -> Result<Command<'a>, AllocError>
-    ensures { IfOk result (λ made. app_of made ≡ alone (command (codes "edit") edit_rules)) }
+    ensures { IfOk result (λ made. app_of made ≡ lone_command (command (codes "edit") edit_rules)) }
 {
     plain_command(alloc, "edit", help::EDIT).arg(from_argument(alloc))
 }
 
 /// The command that begins a controller.
 fn new_command<'a>(alloc: Global) -> Result<Command<'a>, AllocError>
-    ensures { IfOk result (λ made. app_of made ≡ alone (command (codes "new") new_rules)) }
+    ensures { IfOk result (λ made. app_of made ≡ lone_command (command (codes "new") new_rules)) }
 {
     file_command(alloc, "new", help::NEW)?.arg(from_argument(alloc))
 }
 
 /// The command that gives an order.
 fn order_command<'a>(alloc: Global) -> Result<Command<'a>, AllocError>
-    ensures { IfOk result (λ made. app_of made ≡ alone (command (codes "order") order_rules)) }
+    ensures { IfOk result (λ made. app_of made
+        ≡ lone_command (command (codes "order") order_rules)) }
 {
     timed_command(alloc, "order", help::ORDER)?
         .arg(send_argument(alloc))?
@@ -335,7 +337,7 @@ fn order_command<'a>(alloc: Global) -> Result<Command<'a>, AllocError>
 
 /// The command that hands over a message.
 fn take_command<'a>(alloc: Global) -> Result<Command<'a>, AllocError>
-    ensures { IfOk result (λ made. app_of made ≡ alone (command (codes "take") take_rules)) }
+    ensures { IfOk result (λ made. app_of made ≡ lone_command (command (codes "take") take_rules)) }
 {
     timed_command(alloc, "take", help::TAKE)?
         .arg(from_argument(alloc))?
@@ -344,7 +346,7 @@ fn take_command<'a>(alloc: Global) -> Result<Command<'a>, AllocError>
 
 /// The command that shows a FILE.
 fn show_command<'a>(alloc: Global) -> Result<Command<'a>, AllocError>
-    ensures { IfOk result (λ made. app_of made ≡ alone (command (codes "show") show_rules)) }
+    ensures { IfOk result (λ made. app_of made ≡ lone_command (command (codes "show") show_rules)) }
 {
     file_command(alloc, "show", help::SHOW)?
         .arg(picture_argument(alloc))?
@@ -353,7 +355,7 @@ fn show_command<'a>(alloc: Global) -> Result<Command<'a>, AllocError>
 
 /// The command that lists what is out.
 fn list_command<'a>(alloc: Global) -> Result<Command<'a>, AllocError>
-    ensures { IfOk result (λ made. app_of made ≡ alone (command (codes "list") list_rules)) }
+    ensures { IfOk result (λ made. app_of made ≡ lone_command (command (codes "list") list_rules)) }
 {
     let open = flag_argument(alloc, "open", "Lists only what is open");
     let json = flag_argument(alloc, "json", "Prints JSON, one value on each line");
@@ -365,7 +367,8 @@ fn list_command<'a>(alloc: Global) -> Result<Command<'a>, AllocError>
 
 /// The command that checks a document.
 fn check_command<'a>(alloc: Global) -> Result<Command<'a>, AllocError>
-    ensures { IfOk result (λ made. app_of made ≡ alone (command (codes "check") check_rules)) }
+    ensures { IfOk result (λ made. app_of made
+        ≡ lone_command (command (codes "check") check_rules)) }
 {
     plain_command(alloc, "check", help::CHECK)
         .arg(kind_argument(alloc))?
@@ -375,14 +378,15 @@ fn check_command<'a>(alloc: Global) -> Result<Command<'a>, AllocError>
 /// The command that explains a refusal.
 fn explain_command<'a>(alloc: Global) -> Result<Command<'a>, AllocError>
     ensures { IfOk result (λ made. app_of made
-        ≡ alone (command (codes "explain") (refusal_rule ∷ []))) }
+        ≡ lone_command (command (codes "explain") (refusal_rule ∷ []))) }
 {
     plain_command(alloc, "explain", help::EXPLAIN).arg(refusal_argument(alloc))
 }
 
 /// The command that serves a FILE.
 fn serve_command<'a>(alloc: Global) -> Result<Command<'a>, AllocError>
-    ensures { IfOk result (λ made. app_of made ≡ alone (command (codes "serve") serve_rules)) }
+    ensures { IfOk result (λ made. app_of made
+        ≡ lone_command (command (codes "serve") serve_rules)) }
 {
     file_command(alloc, "serve", help::SERVE)?
         .arg(listen_argument(alloc))?
@@ -400,7 +404,7 @@ fn serve_command<'a>(alloc: Global) -> Result<Command<'a>, AllocError>
 
 /// The command that sends to a URL.
 fn send_command<'a>(alloc: Global) -> Result<Command<'a>, AllocError>
-    ensures { IfOk result (λ made. app_of made ≡ alone (command (codes "send") send_rules)) }
+    ensures { IfOk result (λ made. app_of made ≡ lone_command (command (codes "send") send_rules)) }
 {
     plain_command(alloc, "send", help::SEND)
         .arg(url_argument(alloc))?
@@ -409,8 +413,8 @@ fn send_command<'a>(alloc: Global) -> Result<Command<'a>, AllocError>
 
 /// The program before it has commands: its words come without its name, and name a command; it
 /// tells its version.
-fn bare<'a>(alloc: Global) -> Result<Command<'a>, AllocError>
-    ensures { IfOk result (λ made. app_of made ≡ bare) }
+fn program_without_commands<'a>(alloc: Global) -> Result<Command<'a>, AllocError>
+    ensures { IfOk result (λ made. app_of made ≡ program_without_commands) }
 {
     Command::new(alloc, "jdf_cli")
         .about(help::PROGRAM)
@@ -428,7 +432,7 @@ fn with_command<'a>(
 ) -> Result<Command<'a>, AllocError>
     ensures { (before : App) (added : Shape) → added.is_plain ≡ true
         → IfOk program.entry (λ p. app_of p ≡ before)
-        → IfOk command.entry (λ c. app_of c ≡ alone added)
+        → IfOk command.entry (λ c. app_of c ≡ lone_command added)
         → IfOk result (λ made. app_of made ≡ with_subcommand before added) }
 {
     program?.subcommand(command?)
@@ -438,7 +442,7 @@ fn with_command<'a>(
 pub(crate) fn jdf<'a>(alloc: Global) -> Result<Command<'a>, AllocError>
     ensures { IfOk result (λ made. app_of made ≡ jdf) }
 {
-    let program = with_command(bare(alloc), edit_command(alloc));
+    let program = with_command(program_without_commands(alloc), edit_command(alloc));
     let program = with_command(program, Ok(plain_command(alloc, "world", help::WORLD)));
     let program = with_command(program, Ok(plain_command(alloc, "loop", help::LOOP)));
     let program = with_command(program, new_command(alloc));

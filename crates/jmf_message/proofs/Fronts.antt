@@ -3,7 +3,7 @@ use Rattle.std.proofs.Common.{◌≡◌, ◌≢◌, ℕ, ◌+◌, ◌++◌, ◌=
 use Rattle.std.proofs.lemmas.Bool.Decides.{Decides-eqb}
 use Rattle.std.specs.Option.{option_map}
 use Rattle.std.specs.Str.Pattern.{FindsTextPrefix}
-use Rattle.jmf_message.specs.Said.{behind}
+use Rattle.jmf_message.specs.Family.{behind}
 
 -- what stands behind a front is the rest
 pub behind-append : (front rest : List ℕ) → behind front (front ++ rest) ≡ Some rest

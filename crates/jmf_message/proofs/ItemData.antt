@@ -6,10 +6,10 @@ use Rattle.json_text.proofs.Tokens.{put_all}
 use Rattle.controller.specs.declared.command.Command.TheVariants.{Submit, Return, Abort}
 use Rattle.controller.specs.declared.message.Message.{Message}
 use Rattle.jmf_message.specs.Items.{IsOrdered, item_data, members_data, put_each}
-use Rattle.jmf_message.specs.Written.{jmf_data, put_said, said_data, said_by}
+use Rattle.jmf_message.specs.Written.{family_of, jmf_data, put_said, said_data}
 use Rattle.jmf_message.specs.declared.items.Item.{Item, Object, the_lemmas}
-use Rattle.jmf_message.specs.declared.said.Said.{Said}
-use Rattle.jmf_message.specs.declared.said.Said.TheVariants as said
+use Rattle.jmf_message.specs.declared.family.Family.{Family}
+use Rattle.jmf_message.specs.declared.family.Family.TheVariants as said
 
 -- ---- data
 
@@ -27,17 +27,17 @@ pub put_again : (more ms : Members) → put_all more ms ≡ put_each more ms
 put_again no_members ms = refl
 put_again (member name d more) ms = put_again more (put name d ms)
 
-said_ordered : (sender : List ℕ) (s : Said) → IsOrdered (said_data sender s)
+said_ordered : (sender : List ℕ) (s : Family) → IsOrdered (said_data sender s)
 said_ordered sender (said.Command Submit n) = (refl, (tt, ((refl, (tt, (tt, (tt, (tt, tt))))), (tt, tt))))
 said_ordered sender (said.Command Return n) = (refl, (tt, ((refl, (tt, (tt, tt))), (tt, tt))))
 said_ordered sender (said.Command Abort n) = (refl, ((refl, (tt, tt)), (tt, (tt, tt))))
 said_ordered sender (said.Answer asked n (Ok status)) = (refl, (tt, ((refl, (tt, (tt, tt))), (tt, (tt, (tt, (tt, tt)))))))
 said_ordered sender (said.Answer asked n (Err reason)) = (refl, (tt, (tt, (tt, (tt, (tt, tt))))))
 
-ordered_at : (m : Message) (s : Said)
+ordered_at : (m : Message) (s : Family)
     → IsOrdered (object (put_said m.sender s (member (codes "ReceiverID") (string m.receiver) (member (codes "SenderID") (string m.sender) (member (codes "TimeStamp") (number (unsigned m.at)) (member (codes "Version") (string (codes "1.5")) no_members))))))
 ordered_at m (said.Command asked n) = (refl, (said_ordered m.sender (said.Command asked n), (tt, (tt, (tt, (tt, tt))))))
 ordered_at m (said.Answer asked n told) = (refl, (tt, (said_ordered m.sender (said.Answer asked n told), (tt, (tt, (tt, tt))))))
 
 pub jmf_ordered : (m : Message) → IsOrdered (jmf_data m)
-jmf_ordered m = ordered_at m (said_by m.body)
+jmf_ordered m = ordered_at m (family_of m.body)

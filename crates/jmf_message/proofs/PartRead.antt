@@ -2,13 +2,13 @@
 use Rattle.std.proofs.Common.{◌≡◌, Bool, true, false, [], ◌∷◌, Option, Some, None, Ok, Err, refl}
 use Rattle.std.specs.Option.{option_map_or}
 use Rattle.serde_json.specs.Data.{Data}
-use Rattle.json_items.specs.Judged.{sound}
-use Rattle.json_items.specs.PartDraft.{RawPart, part_draft}
-use Rattle.json_items.specs.PartForm.{has_names, has_texts, built_fault, part_fault, copied, part_read}
+use Rattle.json_items.specs.Validation.{checked_value}
+use Rattle.json_items.specs.PartDraft.{RawPart, part_form}
+use Rattle.json_items.specs.PartForm.{built_fault, has_names, has_texts, part_fault, part_of_raw, part_read}
 use Rattle.ticket_items.specs.declared.refusal.Refusal.{Refusal}
 use Rattle.ticket_items.specs.declared.refusal.Refusal.TheVariants.{NotProfile, BadId, BadText}
 use Rattle.ticket_rows.specs.Ticket.{unless, first_of}
-use Rattle.ticket_tree.specs.Part.{Copied}
+use Rattle.ticket_tree.specs.Part.{PartCopy}
 
 -- nothing is wrong
 pub record HasNoFault (a b : Bool) (o : Option Refusal) : Type 0 where
@@ -29,21 +29,21 @@ no_fault-back true false o h = cc h.texts
 no_fault-back false b o h = cc h.names
 
 -- the draft of which the part is made
-pub record IsReadOf (d : Data) (p : Copied) : Type 0 where
+pub record IsReadOf (d : Data) (p : PartCopy) : Type 0 where
   pub raw : RawPart
-  pub drafted : part_draft d ≡ Some raw
+  pub drafted : part_form d ≡ Some raw
   pub faultless : HasNoFault (has_names raw) (has_texts raw) (built_fault raw)
-  pub same : copied raw ≡ p
+  pub same : part_of_raw raw ≡ p
 
-sound_at : (raw : RawPart) (p : Copied) (f : Option Refusal) → part_fault raw ≡ f → sound f (copied raw) ≡ Ok p → (part_fault raw ≡ None) × (copied raw ≡ p)
+sound_at : (raw : RawPart) (p : PartCopy) (f : Option Refusal) → part_fault raw ≡ f → checked_value f (part_of_raw raw) ≡ Ok p → (part_fault raw ≡ None) × (part_of_raw raw ≡ p)
 sound_at raw p None e h = (e, cc)
 sound_at raw p (Some r) e h = cc
 
-read_at : (d : Data) (p : Copied) (o : Option RawPart) → part_draft d ≡ o → option_map_or (λ raw. sound (part_fault raw) (copied raw)) o (Err NotProfile) ≡ Ok p → IsReadOf d p
+read_at : (d : Data) (p : PartCopy) (o : Option RawPart) → part_form d ≡ o → option_map_or (λ raw. checked_value (part_fault raw) (part_of_raw raw)) o (Err NotProfile) ≡ Ok p → IsReadOf d p
 read_at d p None e h = cc
 read_at d p (Some raw) e h =
     let parts = sound_at raw p (part_fault raw) refl h in
     record { raw = raw; drafted = e; faultless = no_fault _ _ _ parts.0; same = parts.1 }
 
-pub read_of : (d : Data) (p : Copied) → part_read d ≡ Ok p → IsReadOf d p
-read_of d p h = read_at d p (part_draft d) refl h
+pub read_of : (d : Data) (p : PartCopy) → part_read d ≡ Ok p → IsReadOf d p
+read_of d p h = read_at d p (part_form d) refl h

@@ -6,8 +6,8 @@ use Rattle.serde_json.specs.Data.{Data}
 use Rattle.ticket_items.specs.declared.ancestor.Ancestor.{Ancestor}
 use Rattle.ticket_items.specs.declared.refusal.Refusal.{Refusal}
 use Rattle.ticket_items.specs.declared.refusal.Refusal.TheVariants.{NotProfile}
-use Rattle.json_items.specs.Judged.{Answers, Finds, first_fault}
-use Rattle.json_items.specs.PartDraft.{RawPart, Taken, ancestors_under, part_draft, part_members, raw_part, taken}
+use Rattle.json_items.specs.Validation.{Answers, Finds, first_fault}
+use Rattle.json_items.specs.PartDraft.{RawPart, RowsAndCopies, ancestors_under, part_form, part_members, raw_part, rows_and_copies}
 use Rattle.json_items.specs.PartForm.{has_names, has_texts}
 use Rattle.json_items.specs.Spawns.{spawn_named}
 use Rattle.json_items.specs.TicketDraft.{RawRow, node_rows}
@@ -19,17 +19,17 @@ use Rattle.jmf_message.proofs.Saying.{handed_on, with_part}
 
 -- ---- the text of a spawn's id
 
-abbrev taken_at : List ℕ → List ℕ → List Ancestor → Option Taken → Option RawPart
+abbrev taken_at : List ℕ → List ℕ → List Ancestor → Option RowsAndCopies → Option RawPart
 taken_at job spawn ancestors t = t >>= λ x. Some (raw_part job (spawn_named spawn) ancestors x)
 
 abbrev drafted : Option (List ℕ) → Option (List ℕ) → Option (List Ancestor) → Option (List RawRow) → Option RawPart
-drafted job spawn ancestors raws = job >>= λ j. spawn >>= λ s. ancestors >>= λ a. raws >>= λ rs. taken_at j s a (taken s rs)
+drafted job spawn ancestors raws = job >>= λ j. spawn >>= λ s. ancestors >>= λ a. raws >>= λ rs. taken_at j s a (rows_and_copies s rs)
 
 no_text : (job : Option (List ℕ)) (ancestors : Option (List Ancestor)) (raws : Option (List RawRow)) → drafted job None ancestors raws ≡ None
 no_text None ancestors raws = refl
 no_text (Some j) ancestors raws = refl
 
-its_spawn_at : (job spawn : List ℕ) (ancestors : List Ancestor) (t : Option Taken) (p : RawPart) → taken_at job spawn ancestors t ≡ Some p → p.spawn ≡ spawn_named spawn
+its_spawn_at : (job spawn : List ℕ) (ancestors : List Ancestor) (t : Option RowsAndCopies) (p : RawPart) → taken_at job spawn ancestors t ≡ Some p → p.spawn ≡ spawn_named spawn
 its_spawn_at job spawn ancestors None p h = cc
 its_spawn_at job spawn ancestors (Some x) p h = let same : raw_part job (spawn_named spawn) ancestors x ≡ p = cc in sym (ap (λ q. q.spawn) same)
 
@@ -37,17 +37,17 @@ its_spawn : (job : Option (List ℕ)) (spawn : List ℕ) (ancestors : Option (Li
 its_spawn None spawn ancestors raws p h = cc
 its_spawn (Some j) spawn None raws p h = cc
 its_spawn (Some j) spawn (Some a) None p h = cc
-its_spawn (Some j) spawn (Some a) (Some rs) p h = its_spawn_at j spawn a (taken spawn rs) p h
+its_spawn (Some j) spawn (Some a) (Some rs) p h = its_spawn_at j spawn a (rows_and_copies spawn rs) p h
 
 abbrev drafted_of : Data → Option (List ℕ) → Option RawPart
 drafted_of d spawn = drafted (text_under (codes "JobID") d) spawn (ancestors_under (codes "AncestorPool") d) (node_rows part_members 1 d)
 
-pub no_part : (d : Data) → text_under (codes "SpawnID") d ≡ None → part_draft d ≡ None
-unfolding part_draft
+pub no_part : (d : Data) → text_under (codes "SpawnID") d ≡ None → part_form d ≡ None
+unfolding part_form
 no_part d none = ap (drafted_of d) none ∙ no_text (text_under (codes "JobID") d) (ancestors_under (codes "AncestorPool") d) (node_rows part_members 1 d)
 
-pub part_spawn : (d : Data) (spawn : List ℕ) (p : RawPart) → text_under (codes "SpawnID") d ≡ Some spawn → part_draft d ≡ Some p → p.spawn ≡ spawn_named spawn
-unfolding part_draft
+pub part_spawn : (d : Data) (spawn : List ℕ) (p : RawPart) → text_under (codes "SpawnID") d ≡ Some spawn → part_form d ≡ Some p → p.spawn ≡ spawn_named spawn
+unfolding part_form
 part_spawn d spawn p is read = its_spawn (text_under (codes "JobID") d) spawn (ancestors_under (codes "AncestorPool") d) (node_rows part_members 1 d) p (sym (ap (drafted_of d) is) ∙ read)
 
 -- ---- the message
@@ -59,7 +59,7 @@ pub text_lent : (text : Option (Bor (List ℕ))) (spawn : Bor (List ℕ)) (read 
 text_lent None spawn read is lent = cc
 text_lent (Some s) spawn read is lent = let same : spawn ≡ s = cc in sym lent ∙ ap (λ x. Some x.now) (sym same)
 
-pub beside_none : (j : RawJmf) (d : Data) (text : Option (Bor (List ℕ))) (r : Result Message Refusal) (e : Refusal) → Err e ≡ ok_or text NotProfile → option_map (λ s. s.now) text ≡ text_under (codes "SpawnID") d → IsErrAnd r (λ f. f ≡ e) → Answers r (message_beside j (part_draft d))
+pub beside_none : (j : RawJmf) (d : Data) (text : Option (Bor (List ℕ))) (r : Result Message Refusal) (e : Refusal) → Err e ≡ ok_or text NotProfile → option_map (λ s. s.now) text ≡ text_under (codes "SpawnID") d → IsErrAnd r (λ f. f ≡ e) → Answers r (message_beside j (part_form d))
 beside_none j d (Some s) r e none lent same = absurd (cc none)
 beside_none j d None r e none lent same =
     let is : NotProfile ≡ e = cc in

@@ -5,19 +5,19 @@ use Rattle.std.specs.Prelude.{codes}
 use Rattle.serde_json.specs.Data.{Data, no_members, member, null, unsigned, number, string, object}
 use Rattle.json_items.specs.TicketDraft.{own_row}
 use Rattle.json_items.specs.TicketForm.{node_has_names, pools_have_names, row_has_texts}
-use Rattle.json_items.specs.Ancestors.{ancestor_draft}
-use Rattle.json_items.specs.PartDraft.{part_draft}
+use Rattle.json_items.specs.Ancestors.{ancestor_form}
+use Rattle.json_items.specs.PartDraft.{part_form}
 use Rattle.json_items.specs.Ancestors.{ancestor_has_names}
-use Rattle.json_items.specs.Links.{link_draft}
-use Rattle.json_items.specs.Resources.{own_resource, resource_draft}
-use Rattle.json_items.specs.Shown.{shown_draft}
+use Rattle.json_items.specs.Links.{link_form}
+use Rattle.json_items.specs.Resources.{own_resource, resource_form}
+use Rattle.json_items.specs.Shown.{shown_form}
 use Rattle.json_items.specs.Resources.{resource_has_names, resource_has_texts}
 use Rattle.json_text.specs.PartWritten.{part_data}
 use Rattle.ticket_items.specs.declared.node_row.NodeRow.{NodeRow}
 use Rattle.ticket_items.specs.declared.refusal.Refusal.TheVariants.{BadId, NotProfile, ReservedStatus, WrongMessage, WrongVersion}
 use Rattle.ticket_items.specs.declared.resource.Resource.{Resource}
 use Rattle.ticket_items.specs.declared.usage.Usage.TheVariants.{Input, Output}
-use Rattle.ticket_tree.specs.Part.{Copied}
+use Rattle.ticket_tree.specs.Part.{PartCopy}
 use Rattle.jmf_message.specs.Decoded.{message_read}
 use Rattle.jmf_message.specs.Form.{document_form, is_command, jmf_form}
 use Rattle.controller.specs.Words.{message_id}
@@ -47,11 +47,11 @@ printing_row status =
       audits = [];
     }
 
-abbrev printing : List ℕ → Copied
+abbrev printing : List ℕ → PartCopy
 printing status =
     record { job_id = codes "J1"; spawn_id = 1; ancestors = record { node_id = codes "n0"; job_part = codes "p0" } ∷ []; rows = printing_row status ∷ []; rw = component ∷ []; ro = media ∷ [] }
 
-abbrev waiting : Copied
+abbrev waiting : PartCopy
 waiting = printing (codes "Waiting")
 
 -- ---- the part goes out, and comes back
@@ -89,35 +89,35 @@ unfolding digits
 return_id = refl
 
 first_read : message_read (message_data first) ≡ Ok first
-unfolding digits document_form jmf_form is_command part_draft own_row resource_draft own_resource shown_draft link_draft ancestor_draft ancestor_has_names node_has_names pools_have_names row_has_texts resource_has_names resource_has_texts
+unfolding digits document_form jmf_form is_command part_form own_row resource_form own_resource shown_form link_form ancestor_form ancestor_has_names node_has_names pools_have_names row_has_texts resource_has_names resource_has_texts
 first_read = refl
 
 return_read : message_read (message_data returned) ≡ Ok returned
-unfolding digits document_form jmf_form is_command part_draft own_row resource_draft own_resource shown_draft link_draft ancestor_draft ancestor_has_names node_has_names pools_have_names row_has_texts resource_has_names resource_has_texts
+unfolding digits document_form jmf_form is_command part_form own_row resource_form own_resource shown_form link_form ancestor_form ancestor_has_names node_has_names pools_have_names row_has_texts resource_has_names resource_has_texts
 return_read = refl
 
 -- ---- commands that no message gives, each with a fault that comes later
 
 -- the Version comes before the ID
 other_version : message_read (document (part_data waiting) (submission (codes "Q.S2") (codes "S1") (codes "jmf:mis")) (codes "mis") (codes "1.4")) ≡ Err WrongVersion
-unfolding digits document_form jmf_form is_command part_draft own_row resource_draft own_resource shown_draft link_draft ancestor_draft
+unfolding digits document_form jmf_form is_command part_form own_row resource_form own_resource shown_form link_form ancestor_form
 other_version = refl
 
 -- the ID comes before the sender's
 id_of_another_spawn : message_read (document (part_data waiting) (submission (codes "Q.S2") (codes "S1") (codes "jmf:1")) (codes "1") (codes "1.5")) ≡ Err WrongMessage
-unfolding digits document_form jmf_form is_command part_draft own_row resource_draft own_resource shown_draft link_draft ancestor_draft
+unfolding digits document_form jmf_form is_command part_form own_row resource_form own_resource shown_form link_form ancestor_form
 id_of_another_spawn = refl
 
 -- a sender that is no id, at a place that names it, comes before the part's Status
 sender_no_id : message_read (document (part_data (printing (codes "Spawned"))) (submission (codes "Q.S1") (codes "S1") (codes "jmf:1")) (codes "1") (codes "1.5")) ≡ Err BadId
-unfolding digits document_form jmf_form is_command part_draft own_row resource_draft own_resource shown_draft link_draft ancestor_draft
+unfolding digits document_form jmf_form is_command part_form own_row resource_form own_resource shown_form link_form ancestor_form
 sender_no_id = refl
 
 status_spawned : message_read (document (part_data (printing (codes "Spawned"))) of_first (codes "mis") (codes "1.5")) ≡ Err ReservedStatus
-unfolding digits document_form jmf_form is_command part_draft own_row resource_draft own_resource shown_draft link_draft ancestor_draft ancestor_has_names node_has_names pools_have_names row_has_texts resource_has_names resource_has_texts
+unfolding digits document_form jmf_form is_command part_form own_row resource_form own_resource shown_form link_form ancestor_form ancestor_has_names node_has_names pools_have_names row_has_texts resource_has_names resource_has_texts
 status_spawned = refl
 
 -- the part has to be one before anything else is asked
 no_part : message_read (document null of_first (codes "mis") (codes "1.4")) ≡ Err NotProfile
-unfolding document_form jmf_form is_command part_draft
+unfolding document_form jmf_form is_command part_form
 no_part = refl

@@ -7,13 +7,13 @@ use Rattle.std.specs.Map.{keys_of}
 use Rattle.std.specs.Option.{option_map, option_map_or, option_and_then}
 use Rattle.serde_json.specs.Data.{Data}
 use Rattle.serde_json.specs.Find.{get}
-use Rattle.json_items.specs.PartDraft.{RawPart, part_draft}
-use Rattle.json_source.specs.Read.{◌>>=◌, provided, has_only, number_under, text_under}
+use Rattle.json_items.specs.PartDraft.{RawPart, part_form}
+use Rattle.json_source.specs.Read.{◌>>=◌, some_if, has_only, number_under, text_under}
 use Rattle.controller.specs.declared.command.Command.{Command}
 use Rattle.controller.specs.declared.command.Command.TheVariants.{Submit, Return, Abort}
-use Rattle.jmf_message.specs.Said.{command_said, response_said}
+use Rattle.jmf_message.specs.Family.{confirmed_command, confirmed_response}
 use Rattle.jmf_message.specs.Written.{params_name, params_texts}
-use Rattle.jmf_message.specs.declared.said.Said.{Said}
+use Rattle.jmf_message.specs.declared.family.Family.{Family}
 
 -- ---- objects of texts
 
@@ -71,16 +71,16 @@ is_response d = has_only response_members d
 
 -- of exactly one of a command and a response: whether a part goes with it, and what a sender says
 -- by it, if it is what a message may say
-abbrev pub one_family : List ℕ → Option Data → Option Data → Option (Bool × Option Said)
+abbrev pub one_family : List ℕ → Option Data → Option Data → Option (Bool × Option Family)
 one_family sender (Some d) None =
-    option_map (λ asked. (has_part asked, command_said sender asked d)) (command_form d)
+    option_map (λ asked. (has_part asked, confirmed_command sender asked d)) (command_form d)
 one_family sender None (Some d) =
-    if is_response d then Some (false, response_said sender d) else None
+    if is_response d then Some (false, confirmed_response sender d) else None
 one_family sender None None = None
 one_family sender (Some d) (Some e) = None
 
 -- the same of the members of a JMF object
-abbrev pub family_form : List ℕ → Data → Option (Bool × Option Said)
+abbrev pub family_form : List ℕ → Data → Option (Bool × Option Family)
 family_form sender d = one_family sender (get (codes "Command") d) (get (codes "Response") d)
 
 -- the members of a JMF object
@@ -96,11 +96,11 @@ pub record RawJmf : Type 0 where
   pub at : ℕ
   pub version : List ℕ
   pub has_part : Bool
-  pub said : Option Said
+  pub said : Option Family
 
 unfoldable pub jmf_form : Data → Option RawJmf
 jmf_form d = do
-  _ ← provided (has_only jmf_members d)
+  _ ← some_if (has_only jmf_members d)
   receiver ← text_under (codes "ReceiverID") d
   sender ← text_under (codes "SenderID") d
   at ← number_under (codes "TimeStamp") d
@@ -124,7 +124,7 @@ pub record RawMessage : Type 0 where
 
 -- a part stands beside a message with which one goes, and none beside another
 abbrev pub part_beside : Bool → Option Data → Option (Option RawPart)
-part_beside goes (Some d) = if goes then option_map Some (part_draft d) else None
+part_beside goes (Some d) = if goes then option_map Some (part_form d) else None
 part_beside goes None = if goes then None else Some None
 
 -- a message's members, and the message that data is by these
@@ -133,7 +133,7 @@ document_members = codes "JDF" ∷ codes "JMF" ∷ []
 
 unfoldable pub document_form : Data → Option RawMessage
 document_form d = do
-  _ ← provided (has_only document_members d)
+  _ ← some_if (has_only document_members d)
   jmf ← option_and_then jmf_form (get (codes "JMF") d)
   part ← part_beside jmf.has_part (get (codes "JDF") d)
   Some (record { jmf = jmf; part = part })

@@ -3,12 +3,12 @@ use Rattle.std.specs.Prelude.{◌≡◌, ◌≤◌, Ok}
 use Rattle.serde_json.specs.Data.{depth}
 use Rattle.json_items.specs.PartForm.{part_read}
 use Rattle.json_text.specs.PartWritten.{part_data}
-use Rattle.ticket_tree.specs.Part.{Copied}
+use Rattle.ticket_tree.specs.Part.{PartCopy}
 use Rattle.controller.specs.declared.body.Body.{Body}
 use Rattle.controller.specs.declared.body.Body.TheVariants.{Submit, Return, Abort, Answer}
 
 -- a part that is read again, and whose data nests little
-pub record IsWritten (part : Copied) : Type 0 where
+pub record IsWritten (part : PartCopy) : Type 0 where
   pub again : part_read (part_data part) ≡ Ok part
   pub nests : depth (part_data part) ≤ 68
 

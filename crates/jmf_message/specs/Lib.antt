@@ -1,6 +1,6 @@
 pub mod Items
 pub mod Written
-pub mod Said
+pub mod Family
 pub mod Form
 pub mod Decoded
 pub mod Known

@@ -15,8 +15,8 @@ use Rattle.controller.specs.declared.command.Command.{Command}
 use Rattle.controller.specs.declared.command.Command.TheVariants.{Submit, Return, Abort}
 use Rattle.controller.specs.declared.message.Message.{Message}
 use Rattle.controller.specs.declared.queue_status.QueueStatus.{QueueStatus}
-use Rattle.jmf_message.specs.declared.said.Said.{Said}
-use Rattle.jmf_message.specs.declared.said.Said.TheVariants as said
+use Rattle.jmf_message.specs.declared.family.Family.{Family}
+use Rattle.jmf_message.specs.declared.family.Family.TheVariants as said
 
 -- ---- commands
 
@@ -77,24 +77,24 @@ response_data asked spawn result =
 -- ---- messages
 
 -- the command or the response by which a sender says this
-abbrev pub said_data : List ℕ → Said → Data
+abbrev pub said_data : List ℕ → Family → Data
 said_data sender (said.Command asked spawn) = command_data sender asked spawn
 said_data sender (said.Answer asked spawn result) = response_data asked spawn result
 
 -- what is said by a body, without its part
-abbrev pub said_by : Body → Said
-said_by (bodies.Submit part) = said.Command Submit part.spawn_id
-said_by (bodies.Return part) = said.Command Return part.spawn_id
-said_by (bodies.Abort spawn) = said.Command Abort spawn
-said_by (bodies.Answer asked spawn result) = said.Answer asked spawn result
+abbrev pub family_of : Body → Family
+family_of (bodies.Submit part) = said.Command Submit part.spawn_id
+family_of (bodies.Return part) = said.Command Return part.spawn_id
+family_of (bodies.Abort spawn) = said.Command Abort spawn
+family_of (bodies.Answer asked spawn result) = said.Answer asked spawn result
 
 -- the spawn of what is said
-abbrev pub spawn_said : Said → ℕ
+abbrev pub spawn_said : Family → ℕ
 spawn_said (said.Command asked spawn) = spawn
 spawn_said (said.Answer asked spawn result) = spawn
 
 -- the command or the response stands in the byte order of the names
-abbrev pub put_said : List ℕ → Said → Members → Members
+abbrev pub put_said : List ℕ → Family → Members → Members
 put_said sender (said.Command asked spawn) ms =
     put (codes "Command") (command_data sender asked spawn) ms
 put_said sender (said.Answer asked spawn result) ms =
@@ -103,7 +103,7 @@ put_said sender (said.Answer asked spawn result) ms =
 -- the JMF object of a message
 abbrev pub jmf_data : Message → Data
 jmf_data m =
-    object (put_said m.sender (said_by m.body)
+    object (put_said m.sender (family_of m.body)
     (member (codes "ReceiverID") (string m.receiver)
     (member (codes "SenderID") (string m.sender)
     (member (codes "TimeStamp") (number (unsigned m.at))

@@ -7,12 +7,12 @@ ghost use Rattle.ticket_items.specs.SpawnId.{is_spawn_number};
 ghost use Rattle.json_items.specs.Attributes.{attrs_data};
 ghost use Rattle.jmf_message.specs.Form as forms;
 ghost use Rattle.jmf_message.specs.Items.{item_data};
-ghost use Rattle.jmf_message.specs.Said as said;
+ghost use Rattle.jmf_message.specs.Family as said;
 ghost use Rattle.jmf_message.specs.Written as written;
 
+use crate::family::Family;
 use crate::ids::command_id;
 use crate::items::{Item, are_texts, is_of_texts, object, text};
-use crate::said::Said;
 use controller::Command;
 use json_items::text_under;
 use json_source::Source;
@@ -80,13 +80,13 @@ pub fn has_part(asked: Command) -> bool
 }
 
 /// What such a command asks of the spawn that its params name. It may be sent.
-pub fn command_asked<S: Source>(asked: Command, command: &S) -> Option<Said>
-    ensures value { result ≡ said.command_asked asked (S.content command.now) }
-    ensures sent { IfSome result (λ s. said.may_be_said s ≡ true) }
+pub fn command_asked<S: Source>(asked: Command, command: &S) -> Option<Family>
+    ensures value { result ≡ said.command_in_params asked (S.content command.now) }
+    ensures sent { IfSome result (λ s. said.can_be_sent s ≡ true) }
 {
     let params = command.member(params_name(asked))?;
     let spawn = SpawnId::parse(text_under(params, "QueueEntryID")?).ok()?;
-    Some(Said::Command(asked, spawn))
+    Some(Family::Command(asked, spawn))
 }
 
 /// The params of a sender's command of a spawn.

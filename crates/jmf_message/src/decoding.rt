@@ -2,32 +2,32 @@
 
 ghost use Rattle.std.specs.Prelude.{◌≡◌, ◌==◌, Err, None, Ok, Some, true, IfErr, IfOk};
 ghost use Rattle.std.specs.Option.{option_map_or};
-ghost use Rattle.json_items.specs.Judged.{Answers, Finds, first_fault};
-ghost use Rattle.json_items.specs.PartDraft.{RawPart as PartSeen, part_draft};
+ghost use Rattle.json_items.specs.Validation.{Answers, Finds, first_fault};
+ghost use Rattle.json_items.specs.PartDraft.{RawPart as PartSeen, part_form as form_of_part};
 ghost use Rattle.json_items.specs.PartForm as part_form;
 ghost use Rattle.json_items.specs.Spawns.{spawn_named};
 ghost use Rattle.jmf_message.specs.Decoded as decoded;
 ghost use Rattle.controller.specs.Words.{may_be_sent};
 
+use crate::family::Family;
 use crate::jmf::Jmf;
-use crate::said::Said;
 use controller::{Body, Command, Message};
-use json_items::{Form, Judged, Raw, both, only, text_under};
+use json_items::{Form, Raw, Validation, check_members, text_under, zip};
 use json_profile::RawPart;
 use json_source::{Scratch, Source, tree_of};
 use std::alloc::Global;
 use ticket_tree::{Part, Refusal, SpawnId};
 
 /// The body of what is said without a part.
-fn body_alone(said: Said) -> Option<Body>
-    ensures { result ≡ decoded.said_alone said }
+fn body_alone(said: Family) -> Option<Body>
+    ensures { result ≡ decoded.body_without_part said }
 {
     match said {
-        Said::Command(asked, spawn_id) => match asked {
+        Family::Command(asked, spawn_id) => match asked {
             Command::Submit | Command::Return => None,
             Command::Abort => Some(Body::Abort(spawn_id)),
         },
-        Said::Answer(of, spawn_id, result) => Some(Body::Answer {
+        Family::Answer(of, spawn_id, result) => Some(Body::Answer {
             of,
             spawn_id,
             result,
@@ -41,7 +41,7 @@ fn message_alone(alloc: Global, jmf: &Jmf<'_>) -> Result<Message, Refusal>
         (decoded.draft_read (record { jmf = jmf.now; part = None })) }
     ensures sent { IfOk result (λ message. may_be_sent message.body ≡ true) }
 {
-    let body = body_alone(jmf.said()?).ok_or(Refusal::WrongMessage)?;
+    let body = body_alone(jmf.checked_family()?).ok_or(Refusal::WrongMessage)?;
     let (sender, receiver) = jmf.parties(alloc)??;
     Ok(Message {
         sender,
@@ -60,12 +60,12 @@ fn names_spawn(text: &str, spawn: SpawnId) -> bool
 }
 
 /// What is asked by what is said, of the spawn that a text names.
-fn asked_of(said: Said, spawn: &str) -> Option<Command>
-    ensures { result ≡ decoded.asked_of (spawn_named spawn.now) said }
+fn command_of(said: Family, spawn: &str) -> Option<Command>
+    ensures { result ≡ decoded.command_of (spawn_named spawn.now) said }
 {
     match said {
-        Said::Command(asked, other) => names_spawn(spawn, other).then_some(asked),
-        Said::Answer(_, _, _) => None,
+        Family::Command(asked, other) => names_spawn(spawn, other).then_some(asked),
+        Family::Answer(_, _, _) => None,
     }
 }
 
@@ -87,7 +87,7 @@ fn message_with(
     alloc: Global,
     jmf: &Jmf<'_>,
     spawn: &str,
-    part: Judged<RawPart>,
+    part: Validation<RawPart>,
 ) -> Result<Message, Refusal>
     ensures answers { (raw : PartSeen) → raw.spawn ≡ spawn_named spawn.now
         → Finds (first_fault part_form.has_names part_form.has_texts) part (Some raw)
@@ -95,9 +95,9 @@ fn message_with(
         (decoded.draft_read (record { jmf = jmf.now; part = Some raw })) }
     ensures sent { IfOk result (λ message. may_be_sent message.body ≡ true) }
 {
-    let asked = asked_of(jmf.said()?, spawn).ok_or(Refusal::WrongMessage)?;
+    let asked = command_of(jmf.checked_family()?, spawn).ok_or(Refusal::WrongMessage)?;
     let parties = jmf.parties(alloc)?;
-    let ((sender, receiver), part) = both(parties, part)?;
+    let ((sender, receiver), part) = zip(parties, part)?;
     let part = part.build(alloc)?;
     Ok(Message {
         sender,
@@ -111,7 +111,7 @@ fn message_with(
 fn message_beside<S: Source>(alloc: Global, jmf: &Jmf<'_>, part: &S) -> Result<Message, Refusal>
     ensures answers { Answers result (option_map_or
         (λ raw. decoded.draft_read (record { jmf = jmf.now; part = Some raw }))
-        (part_draft (S.content part.now)) (Err Refusal.NotProfile)) }
+        (form_of_part (S.content part.now)) (Err Refusal.NotProfile)) }
     ensures sent { IfOk result (λ message. may_be_sent message.body ≡ true) }
 {
     let spawn = text_under(part, "SpawnID").ok_or(Refusal::NotProfile)?;
@@ -126,7 +126,7 @@ fn message_in<S: Source>(alloc: Global, value: &S) -> Result<Message, Refusal>
     ensures answers { Answers result (decoded.message_read (S.content value.now)) }
     ensures sent { IfOk result (λ message. may_be_sent message.body ≡ true) }
 {
-    only(value, &["JDF", "JMF"])?;
+    check_members(value, &["JDF", "JMF"])?;
     let jmf = Jmf::of(alloc, value.member("JMF").ok_or(Refusal::NotProfile)?)?;
     match (value.member("JDF"), jmf.has_part()) {
         (Some(part), true) => message_beside(alloc, &jmf, part),

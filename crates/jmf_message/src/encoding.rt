@@ -16,7 +16,7 @@ use crate::jmf::jmf_item;
 use controller::{Body, Message};
 use json::Writer;
 use json_profile::print_part;
-use json_text::finished;
+use json_text::written_text;
 use std::alloc::{AllocError, Global};
 
 /// How many bytes a text has room for in the beginning.
@@ -45,7 +45,7 @@ fn print_document(alloc: Global, out: &mut Writer, message: &Message) -> Result<
     ensures sender { OnOk result (is_name message.now.sender ≡ true) }
     ensures receiver { OnOk result (is_name message.now.receiver ≡ true) }
     ensures valid { OnOk result
-        (is_spawn_number (written.spawn_said (written.said_by message.now.body)) ≡ true) }
+        (is_spawn_number (written.spawn_said (written.family_of message.now.body)) ≡ true) }
     ensures known { OnOk result (IsKnown message.now.body) }
 {
     let jmf = jmf_item(alloc, message)?;
@@ -68,5 +68,5 @@ pub fn encode(alloc: Global, message: &Message) -> Result<Vec<u8>, AllocError>
 {
     let mut out = Writer::new(Vec::with_capacity(alloc, ROOM)?);
     print_document(alloc, &mut out, message)?;
-    Ok(finished(out))
+    Ok(written_text(out))
 }

@@ -4,7 +4,7 @@ ghost use Rattle.std.specs.Prelude.{◌≡◌, true, string_bytes, IfOk};
 ghost use Rattle.ticket_items.specs.SpawnId.{is_spawn_number};
 ghost use Rattle.controller.specs.Words as words;
 
-use crate::said::{Said, said_by};
+use crate::family::{Family, family_of};
 use controller::{Command, Message};
 use std::alloc::{AllocError, Global};
 use ticket_tree::SpawnId;
@@ -32,8 +32,8 @@ pub fn id_of(alloc: Global, message: &Message) -> Result<String, AllocError>
     // By `laws::ids_tell_messages_apart`.
     ensures { IfOk result (λ id. string_bytes id ≡ words.message_id message.now.body) }
 {
-    match said_by(&message.body) {
-        Said::Command(asked, spawn) => command_id(alloc, asked, spawn),
-        Said::Answer(asked, spawn, _) => answer_id(alloc, asked, spawn),
+    match family_of(&message.body) {
+        Family::Command(asked, spawn) => command_id(alloc, asked, spawn),
+        Family::Answer(asked, spawn, _) => answer_id(alloc, asked, spawn),
     }
 }

@@ -5,12 +5,12 @@ ghost use Rattle.serde_json.specs.Data as json_data;
 ghost use Rattle.json_text.specs.Printed.{AreMembersPrinted, IsPrinted};
 ghost use Rattle.jmf_message.specs.Form as forms;
 ghost use Rattle.jmf_message.specs.Items.{AreOrdered, IsOrdered, item_data, members_data};
-ghost use Rattle.jmf_message.specs.Said as said;
+ghost use Rattle.jmf_message.specs.Family as said;
 
 use json::Writer;
 use json_items::{AnyText, text_under};
 use json_source::Source;
-use json_text::Printed;
+use json_text::PrintForm;
 use std::alloc::{AllocError, Global};
 
 /// A text, a whole number, or an object of named items.

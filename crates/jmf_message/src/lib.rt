@@ -5,13 +5,13 @@
 mod commands;
 mod decoding;
 mod encoding;
+mod family;
 mod ids;
 mod items;
 mod jmf;
 pub mod laws;
 mod refused;
 mod responses;
-mod said;
 
 pub use controller::{Body, Command, Done, Message, Outcome, QueueStatus, Reply};
 pub use decoding::decode;

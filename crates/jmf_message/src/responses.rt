@@ -7,12 +7,12 @@ ghost use Rattle.ticket_items.specs.SpawnId.{is_spawn_number};
 ghost use Rattle.json_items.specs.Attributes.{attrs_data};
 ghost use Rattle.jmf_message.specs.Form as forms;
 ghost use Rattle.jmf_message.specs.Items.{item_data};
-ghost use Rattle.jmf_message.specs.Said as said;
+ghost use Rattle.jmf_message.specs.Family as said;
 ghost use Rattle.jmf_message.specs.Written as written;
 
+use crate::family::Family;
 use crate::ids::{answer_id, command_id};
 use crate::items::{Item, are_texts, is_of_texts, number, object, text};
-use crate::said::Said;
 use controller::{Command, QueueStatus};
 use json_items::{number_under, text_under};
 use json_source::Source;
@@ -56,26 +56,26 @@ fn refusal_in(reason: u64) -> Option<Result<QueueStatus, u16>>
 }
 
 /// The Status of a response's queue entry, or the reason of a refusal.
-fn told_by<S: Source>(response: &S) -> Option<Result<QueueStatus, u16>>
-    ensures value { result ≡ said.told_by (S.content response.now) }
+fn response_in<S: Source>(response: &S) -> Option<Result<QueueStatus, u16>>
+    ensures value { result ≡ said.response_in (S.content response.now) }
     ensures told { IfSome result (λ told. is_told told ≡ true) }
 {
     match response.member("QueueEntry") {
-        Some(entry) => Some(Ok(QueueStatus::named(text_under(entry, "Status")?)?)),
+        Some(entry) => Some(Ok(QueueStatus::of_word(text_under(entry, "Status")?)?)),
         None => refusal_in(number_under(response, "Reason")?),
     }
 }
 
 /// What such a response tells of the command that its Type names, and of the spawn that its refID
 /// does. It may be sent.
-pub fn answer_in<S: Source>(response: &S) -> Option<Said>
+pub fn answer_in<S: Source>(response: &S) -> Option<Family>
     ensures value { result ≡ said.answer_in (S.content response.now) }
-    ensures sent { IfSome result (λ s. said.may_be_said s ≡ true) }
+    ensures sent { IfSome result (λ s. said.can_be_sent s ≡ true) }
 {
-    let asked = Command::named(text_under(response, "Type")?)?;
+    let asked = Command::of_type(text_under(response, "Type")?)?;
     let number = behind(asked.mark(), text_under(response, "refID")?)?;
     let spawn = SpawnId::parse(number).ok()?;
-    Some(Said::Answer(asked, spawn, told_by(response)?))
+    Some(Family::Answer(asked, spawn, response_in(response)?))
 }
 
 /// The queue entry of a spawn.

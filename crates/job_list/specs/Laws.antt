@@ -8,13 +8,13 @@ use Rattle.job_list.specs.Work.{work_of_entry, work_of_spawn, works_of_master, w
 -- what is open and all other are each spawn's work, each once
 abbrev pub EachSpawnOnce : Type 0
 EachSpawnOnce =
-    (m : master.Known)
+    (m : master.State)
     → IsPermutation (map (work_of_spawn m) m.records)
     (works_of_master true m ++ works_of_master false m)
 
 -- the same of entries
 abbrev pub EachEntryOnce : Type 0
 EachEntryOnce =
-    (w : worker.Known)
+    (w : worker.State)
     → IsPermutation (map (work_of_entry w) w.entries)
     (works_of_worker true w ++ works_of_worker false w)

@@ -44,8 +44,8 @@ phase_word (phase.Entry Declined) = codes "Declined"
 -- ---- what is known of a node
 
 -- a text that is known, or nothing
-abbrev pub known : Option (List ℕ) → List ℕ
-known text = option_map_or (λ t. t) text []
+abbrev pub known_text : Option (List ℕ) → List ℕ
+known_text text = option_map_or (λ t. t) text []
 
 abbrev pub descriptive_name : NodeRow → Option (List ℕ)
 descriptive_name r = text_at (codes "DescriptiveName") r.attrs
@@ -62,7 +62,7 @@ id_in row = option_map (λ r. r.id) row
 -- ---- spawns
 
 -- the work of a spawn: with its worker, on a node of the master's ticket
-unfoldable pub work_of_spawn : master.Known → SpawnRec → Work
+unfoldable pub work_of_spawn : master.State → SpawnRec → Work
 work_of_spawn m r =
     record {
       spawn_id = r.id;
@@ -79,7 +79,7 @@ abbrev pub is_spawn : Bool → SpawnRec → Bool
 is_spawn are_open r = is_asked are_open (phase.Spawn r.phase)
 
 -- the work of a master that is open, or all other, in the order in which it went out
-abbrev pub works_of_master : Bool → master.Known → List Work
+abbrev pub works_of_master : Bool → master.State → List Work
 works_of_master are_open m = map (work_of_spawn m) (filter (is_spawn are_open) m.records)
 
 -- ---- entries
@@ -92,7 +92,7 @@ abbrev pub job_in : Entry → Option (List ℕ)
 job_in e = option_map (λ p. p.job_id) e.part
 
 -- the work of an entry: from the master, on the node of its part
-unfoldable pub work_of_entry : worker.Known → Entry → Work
+unfoldable pub work_of_entry : worker.State → Entry → Work
 work_of_entry w e =
     record {
       spawn_id = e.spawn_id;
@@ -109,5 +109,5 @@ abbrev pub is_entry : Bool → Entry → Bool
 is_entry are_open e = is_asked are_open (phase.Entry e.phase)
 
 -- the work of a worker that is open, or all other, in the order in which it was taken or declined
-abbrev pub works_of_worker : Bool → worker.Known → List Work
+abbrev pub works_of_worker : Bool → worker.State → List Work
 works_of_worker are_open w = map (work_of_entry w) (filter (is_entry are_open) w.entries)

@@ -38,7 +38,7 @@ pub struct Work {
 pub fn descriptive_name(alloc: Global, row: &NodeRow) -> Result<Option<Text>, AllocError>
     ensures { IfOk result (λ name. name ≡ work.descriptive_name row.now) }
 {
-    let name = Name::known(alloc, DESCRIPTIVE_NAME)?;
+    let name = Name::from_valid(alloc, DESCRIPTIVE_NAME)?;
     match row.attrs.get(&name) {
         None => Ok(None),
         Some(text) => Ok(Some(text.clone()?)),
@@ -77,7 +77,7 @@ fn id_in(row: Option<&NodeRow>) -> Result<Option<Id>, AllocError>
 
 /// An id that is known, or nothing.
 pub fn known_id(id: &Option<Id>) -> &str
-    ensures { result.now ≡ work.known id.now }
+    ensures { result.now ≡ work.known_text id.now }
 {
     match id {
         None => "",
@@ -87,7 +87,7 @@ pub fn known_id(id: &Option<Id>) -> &str
 
 /// A name that is known, or nothing.
 pub fn known_name(name: &Option<Name>) -> &str
-    ensures { result.now ≡ work.known name.now }
+    ensures { result.now ≡ work.known_text name.now }
 {
     match name {
         None => "",

@@ -9,7 +9,7 @@ use Rattle.std.specs.Char.{encode_utf8}
 use lib.Utf8.{encode}
 use Rattle.std.specs.List.{All, list_all}
 use Rattle.job_picture.specs.Laws.{EscapedIsPlain, ShortenedIsPlain}
-use Rattle.job_picture.specs.Texts.{escaped_char, escaped_chars, is_plain, is_unfit, shortened}
+use Rattle.job_picture.specs.Texts.{escaped_char, escaped_chars, is_plain, is_unfit, short_text}
 
 abbrev IsPlain : List ℕ → Type 0
 IsPlain text = All (λ b. is_plain b ≡ true) text
@@ -74,7 +74,7 @@ pub escaped_is_plain : EscapedIsPlain
 escaped_is_plain text = chars_plain (chars text)
 
 pub shortened_is_plain : ShortenedIsPlain
-unfolding shortened
+unfolding short_text
 shortened_is_plain most text = pick (nat_le (length (chars text)) most)
   where
     pick : (fits : Bool) → IsPlain (if fits then escaped_chars (chars text) else escaped_chars (take (most - 1) (chars text)) ++ codes "&#8230;")

@@ -12,7 +12,7 @@ use Rattle.spawn.specs.declared.records.phase.Phase.TheVariants.{Out, Merged, Wi
 use Rattle.spawn.specs.declared.records.spawn_rec.SpawnRec.{SpawnRec}
 use Rattle.spawn.specs.declared.tables.holder.Holder.{Holder}
 use Rattle.spawn.specs.declared.tables.holder.Holder.TheVariants.{Master, Spawn}
-use Rattle.master_core.specs.Master.{Known, holder}
+use Rattle.master_core.specs.Master.{State, holder}
 use Rattle.job_list.specs.Work.{works_of_master}
 use Rattle.job_picture.specs.Cards.{card}
 use Rattle.job_picture.specs.Marked.{mark_of}
@@ -25,15 +25,15 @@ spawn_in Master = None
 spawn_in (Spawn s) = Some s
 
 -- the spawn that holds an id, if one does
-unfoldable pub spawn_at : Known → List ℕ → Option ℕ
+unfoldable pub spawn_at : State → List ℕ → Option ℕ
 spawn_at m x = option_and_then spawn_in (holder m x)
 
 -- the line of a node, by the marks of resources
-abbrev pub held_line : Known → (List ℕ → Option ResMark) → NodeRow → Line
+abbrev pub held_line : State → (List ℕ → Option ResMark) → NodeRow → Line
 held_line m mark r = node_line mark r (spawn_at m r.id) []
 
 -- the lines of the ticket, in ticket order
-unfoldable pub ticket_lines : Known → List Line
+unfoldable pub ticket_lines : State → List Line
 ticket_lines m =
     map (held_line m (mark_of (marks m.ticket.rows m.records).resources)) m.ticket.rows
 
@@ -61,11 +61,11 @@ closed_spawns records =
     ++ decimal (length (filter is_withdrawn records)) ++ codes " withdrawn"
 
 -- the job and its master
-unfoldable pub title_of : Known → List ℕ
+unfoldable pub title_of : State → List ℕ
 title_of m = codes "Job " ++ m.ticket.job_id ++ codes ", master " ++ m.name
 
 -- the picture of a master at a moment
-abbrev pub picture_of : ℕ → Known → List ℕ
+abbrev pub picture_of : ℕ → State → List ℕ
 picture_of now m =
     wall now (title_of m) (closed_spawns m.records) (codes "Out")
     (map (card now) (works_of_master true m)) (ticket_lines m)

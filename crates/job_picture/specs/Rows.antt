@@ -13,7 +13,7 @@ use Rattle.ticket_items.specs.declared.spawn_status.SpawnStatus.{SpawnStatus}
 use Rattle.job_list.specs.Work.{descriptive_name}
 use Rattle.job_picture.specs.Progress.{progress_of, shape_of}
 use Rattle.job_picture.specs.Svg.{held_text, label, shade, shape}
-use Rattle.job_picture.specs.Texts.{escaped, room_behind, shortened}
+use Rattle.job_picture.specs.Texts.{escaped_text, room_behind, short_text}
 use Rattle.job_picture.specs.declared.progress.Progress.{Progress}
 use Rattle.job_picture.specs.declared.node_line.NodeLine.{NodeLine}
 
@@ -57,7 +57,7 @@ copy_words status s xs = flat_map (λ x. resource_words x (copies_words status (
 -- a name for people, behind a comma, if there is one
 abbrev pub name_words : Option (List ℕ) → List ℕ
 name_words None = []
-name_words (Some name) = codes ", " ++ escaped name
+name_words (Some name) = codes ", " ++ escaped_text name
 
 -- a node, whole
 unfoldable pub node_words : NodeRow → List ℕ → List ℕ
@@ -81,15 +81,15 @@ pool_text pool = if length pool == 0 then [] else counts_text pool
 
 -- what a node is called, in a room of so many characters: its DescriptiveName or, where it has
 -- none, its Type
-abbrev pub called : ℕ → NodeRow → Option (List ℕ) → List ℕ
-called room r None = shortened room r.kind
-called room r (Some name) = shortened room name
+abbrev pub node_title : ℕ → NodeRow → Option (List ℕ) → List ℕ
+node_title room r None = short_text room r.kind
+node_title room r (Some name) = short_text room name
 
 -- the id and the name of a node
 unfoldable pub node_label : NodeRow → List ℕ
 node_label r =
-    codes "<tspan class='b'>" ++ shortened 20 r.id ++ codes "</tspan> "
-    ++ called (room_behind 34 20 r.id) r (descriptive_name r)
+    codes "<tspan class='b'>" ++ short_text 20 r.id ++ codes "</tspan> "
+    ++ node_title (room_behind 34 20 r.id) r (descriptive_name r)
 
 -- the shape, the id and the name of a node
 unfoldable pub node_drawn : NodeRow → Progress → List ℕ
@@ -100,7 +100,7 @@ node_drawn r progress =
 -- the Status of a node, the spawn that holds it, and its resources
 unfoldable pub node_facts : NodeRow → Option ℕ → List ℕ
 node_facts r held =
-    label (codes "s") 410 18 (shortened 13 r.status) ++ label (codes "s b") 514 18 (held_text held)
+    label (codes "s") 410 18 (short_text 13 r.status) ++ label (codes "s b") 514 18 (held_text held)
     ++ label (codes "s e") 604 18 (pool_text r.resources)
 
 -- the row of a node that a spawn holds, or none, with its resources in words

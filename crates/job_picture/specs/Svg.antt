@@ -15,8 +15,8 @@ held_text None = []
 held_text (Some s) = spawn_text s
 
 -- what is drawn in a place of its own
-unfoldable pub placed : ℕ → ℕ → List ℕ → List ℕ
-placed x y drawn =
+unfoldable pub placed_drawing : ℕ → ℕ → List ℕ → List ℕ
+placed_drawing x y drawn =
     codes "<g transform='translate(" ++ decimal x ++ codes " " ++ decimal y ++ codes ")'>" ++ drawn
     ++ codes "</g>" ++ 10 ∷ []
 

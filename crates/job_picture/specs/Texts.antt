@@ -22,8 +22,8 @@ abbrev pub escaped_chars : List ℕ → List ℕ
 escaped_chars cs = flat_map escaped_char cs
 
 -- a text in XML
-abbrev pub escaped : List ℕ → List ℕ
-escaped text = escaped_chars (chars text)
+abbrev pub escaped_text : List ℕ → List ℕ
+escaped_text text = escaped_chars (chars text)
 
 -- how many of the characters that there is room for are left behind a text of which so many are
 -- drawn at most
@@ -32,9 +32,9 @@ room_behind room most text = if nat_le (length text) most then room - length tex
 
 -- a text in XML that has a number of characters at most, of which the last is `…` where more were
 -- left out
-unfoldable pub shortened : ℕ → List ℕ → List ℕ
-shortened most text =
-    if nat_le (length (chars text)) most then escaped text
+unfoldable pub short_text : ℕ → List ℕ → List ℕ
+short_text most text =
+    if nat_le (length (chars text)) most then escaped_text text
     else escaped_chars (take (most - 1) (chars text)) ++ codes "&#8230;"
 
 -- whether a byte is none by which XML would end a text or an attribute, and no control character

@@ -7,7 +7,7 @@ use Rattle.std.specs.List.{enumerate_from, filter, flat_map}
 use Rattle.job_picture.specs.Moments.{moment_text}
 use Rattle.job_picture.specs.Progress.{is_undone, shape_of}
 use Rattle.job_picture.specs.Rows.{Line}
-use Rattle.job_picture.specs.Svg.{label, placed, shape}
+use Rattle.job_picture.specs.Svg.{label, placed_drawing, shape}
 use Rattle.job_picture.specs.declared.progress.Progress.{Progress}
 use Rattle.job_picture.specs.declared.progress.Progress.TheVariants.{Waiting, InProgress}
 use Rattle.job_picture.specs.declared.progress.Progress.TheVariants.{Completed, Aborted}
@@ -49,7 +49,7 @@ drawn_lines room lines =
 
 -- a card in the place of its number
 abbrev pub place_card : ℕ × List ℕ → List ℕ
-place_card e = placed (30 + 470 * (e.0 % 4)) (148 + 124 * (e.0 / 4)) e.1
+place_card e = placed_drawing (30 + 470 * (e.0 % 4)) (148 + 124 * (e.0 / 4)) e.1
 
 -- the cards, each in its place
 abbrev pub placed_cards : List (List ℕ) → List ℕ
@@ -57,7 +57,7 @@ placed_cards cards = flat_map place_card (enumerate_from 0 cards)
 
 -- a line in the place of its number, from a height on, in columns of so many rows
 abbrev pub place_line : ℕ → ℕ → ℕ × Line → List ℕ
-place_line top rows e = placed (30 + 627 * (e.0 / rows)) (top + 27 * (e.0 % rows)) e.1.text
+place_line top rows e = placed_drawing (30 + 627 * (e.0 / rows)) (top + 27 * (e.0 % rows)) e.1.text
 
 -- lines, each in its place, from a height on
 abbrev pub placed_lines : ℕ → List Line → List ℕ
@@ -89,15 +89,15 @@ tallies lines =
     ++ tally Aborted (codes "aborted") 690 (count_of Aborted lines)
 
 -- how many are left out where there is room for so many, in words; nothing where none is
-unfoldable pub left_out : ℕ → ℕ → List ℕ → List ℕ
-left_out room count words =
+unfoldable pub count_left_out : ℕ → ℕ → List ℕ → List ℕ
+count_left_out room count words =
     if nat_le count room then [] else codes ", " ++ decimal (count - room) ++ codes " " ++ words
 
 -- what stands above the cards: how many there are, in words, and how many of those have no room
 unfoldable pub cards_heading : List ℕ → ℕ → List ℕ
 cards_heading words count =
     label (codes "h") 30 136
-    (words ++ codes ": " ++ decimal count ++ left_out most_cards count (codes "without room here"))
+    (words ++ codes ": " ++ decimal count ++ count_left_out most_cards count (codes "without room here"))
 
 -- how many nodes are folded, since they are done and there is no room for all, in words
 unfoldable pub folded_words : ℕ → ℕ → ℕ → List ℕ
@@ -110,7 +110,7 @@ folded_words room count undone =
 unfoldable pub nodes_words : ℕ → ℕ → ℕ → List ℕ
 nodes_words room count undone =
     codes "Nodes: " ++ decimal count ++ folded_words room count undone
-    ++ left_out room undone (codes "more without room here")
+    ++ count_left_out room undone (codes "more without room here")
 
 -- what stands above the nodes: that, and what is told of each
 unfoldable pub nodes_heading : ℕ → List ℕ → List ℕ
@@ -142,14 +142,14 @@ nodes_part top room lines =
     ++ 10 ∷ placed_lines top (drawn_lines room lines)
 
 -- what stands above the cards and the nodes
-unfoldable pub upper : ℕ → List ℕ → List ℕ → List Line → List ℕ
-upper now title closed lines =
+unfoldable pub wall_head : ℕ → List ℕ → List ℕ → List Line → List ℕ
+wall_head now title closed lines =
     head title (drawn_text now) ++ tallies lines ++ label (codes "n e") 1890 94 closed ++ 10 ∷ []
 
 -- a picture of a title at a moment: what is closed, in words; what is open, in words and as cards;
 -- and nodes
 unfoldable pub wall : ℕ → List ℕ → List ℕ → List ℕ → List (List ℕ) → List Line → List ℕ
 wall now title closed words cards lines =
-    upper now title closed lines ++ cards_part words cards
+    wall_head now title closed lines ++ cards_part words cards
     ++ nodes_part (nodes_top (length cards)) (room_below (length cards)) lines
     ++ codes "</svg>" ++ 10 ∷ []

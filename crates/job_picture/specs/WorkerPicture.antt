@@ -6,8 +6,8 @@ use Rattle.std.specs.List.{filter, flat_map}
 use Rattle.ticket_items.specs.declared.node_row.NodeRow.{NodeRow}
 use Rattle.ticket_items.specs.declared.res_mark.ResMark.{ResMark}
 use Rattle.ticket_items.specs.declared.spawn_status.SpawnStatus.TheVariants.{SpawnedRO, SpawnedRW}
-use Rattle.ticket_tree.specs.Part.{Copied}
-use Rattle.worker_core.specs.Worker.{Known, is_closed, is_declined, is_open}
+use Rattle.ticket_tree.specs.Part.{PartCopy}
+use Rattle.worker_core.specs.Worker.{State, is_closed, is_declined, is_open}
 use Rattle.worker_core.specs.declared.entry.Entry.{Entry}
 use Rattle.job_list.specs.Work.{works_of_worker}
 use Rattle.job_picture.specs.Cards.{card}
@@ -28,12 +28,12 @@ own_lines held copies [] = []
 own_lines held copies (r ∷ rs) = node_line no_mark r held copies ∷ own_lines held [] rs
 
 -- the copies of a part, those to change first
-abbrev pub part_copies : Copied → List ℕ
+abbrev pub part_copies : PartCopy → List ℕ
 part_copies p =
     copy_words SpawnedRW p.spawn_id p.rw ++ copy_words SpawnedRO p.spawn_id p.ro
 
 -- the lines of the nodes of a part that is held, the first with the part's copies
-abbrev pub part_lines : Option ℕ → Option Copied → List Line
+abbrev pub part_lines : Option ℕ → Option PartCopy → List Line
 part_lines held None = []
 part_lines held (Some p) = own_lines held (part_copies p) p.rows
 
@@ -48,11 +48,11 @@ closed_entries entries =
     ++ decimal (length (filter is_declined entries)) ++ codes " declined"
 
 -- a worker and its master
-unfoldable pub worker_title : Known → List ℕ
+unfoldable pub worker_title : State → List ℕ
 worker_title w = codes "Worker " ++ w.name ++ codes ", master " ++ w.master
 
 -- the picture of a worker at a moment
-abbrev pub worker_picture_of : ℕ → Known → List ℕ
+abbrev pub worker_picture_of : ℕ → State → List ℕ
 worker_picture_of now w =
     wall now (worker_title w) (closed_entries w.entries) (codes "Here")
     (map (card now) (works_of_worker true w)) (flat_map entry_lines w.entries)

@@ -7,7 +7,7 @@ use crate::moments::{moment_text, span_text};
 use crate::progress::Progress;
 use crate::rows::name_words;
 use crate::svg::{label, shade, shape};
-use crate::texts::{room_behind, shortened};
+use crate::texts::{room_behind, short_text};
 use job_list::{Work, WorkPhase, known_id, known_name};
 use std::alloc::{AllocError, Global};
 use ticket_items::Text;
@@ -34,7 +34,7 @@ fn short_name(alloc: Global, room: usize, name: &Option<Text>) -> Result<String,
     match name {
         None => Ok(String::new(alloc)),
         Some(name) => {
-            let name = shortened(alloc, room, name.as_str())?;
+            let name = short_text(alloc, room, name.as_str())?;
             format!(in alloc; " {name}")
         }
     }
@@ -57,7 +57,7 @@ fn card_head(alloc: Global, now: u64, work: &Work) -> Result<String, AllocError>
     ensures { IfOk result (λ made. string_bytes made ≡ cards.card_head now work.now) }
 {
     let number = work.spawn_id.number();
-    let other = shortened(alloc, 12, work.other.as_str())?;
+    let other = short_text(alloc, 12, work.other.as_str())?;
     let other = format!(in alloc; "S{number} {other}")?;
     let other = label(alloc, "u", 16, 36, other.as_str())?;
     let age = span_text(alloc, now.saturating_sub(work.at))?;
@@ -70,7 +70,7 @@ fn card_node(alloc: Global, work: &Work) -> Result<String, AllocError>
     ensures { IfOk result (λ made. string_bytes made ≡ cards.card_node work.now) }
 {
     let room = room_behind(38, 22, known_id(&work.node));
-    let node = shortened(alloc, 22, known_id(&work.node))?;
+    let node = short_text(alloc, 22, known_id(&work.node))?;
     let name = short_name(alloc, room, &work.descriptive_name)?;
     let text = format!(in alloc; "<tspan class='b'>{node}</tspan>{name}")?;
     label(alloc, "n", 16, 69, text.as_str())
@@ -82,7 +82,7 @@ fn card_foot(alloc: Global, work: &Work) -> Result<String, AllocError>
 {
     let status = known_name(&work.status);
     let mark = shape(alloc, Progress::of_status(status).shape(), 16, 82)?;
-    let status = shortened(alloc, 14, status)?;
+    let status = short_text(alloc, 14, status)?;
     let status = label(alloc, "n", 44, 98, status.as_str())?;
     let word = since_word(work.phase);
     let moment = moment_text(alloc, work.at)?;

@@ -17,5 +17,5 @@ mod worker_picture;
 
 pub use master_picture::push_picture;
 pub use moments::{moment_text, span_text};
-pub use texts::escaped;
+pub use texts::escaped_text;
 pub use worker_picture::push_worker_picture;

@@ -10,7 +10,7 @@ use crate::marks::Marked;
 use crate::node_line::NodeLine;
 use crate::progress::Progress;
 use crate::svg::{held_text, label, shade, shape};
-use crate::texts::{escaped, room_behind, shortened};
+use crate::texts::{escaped_text, room_behind, short_text};
 use job_list::descriptive_name;
 use std::alloc::{AllocError, Global};
 use ticket_items::{Id, NodeRow, Resource, SpawnId, SpawnStatus, Text};
@@ -93,7 +93,7 @@ pub fn name_words(alloc: Global, name: &Option<Text>) -> Result<String, AllocErr
     match name {
         None => Ok(String::new(alloc)),
         Some(name) => {
-            let name = escaped(alloc, name.as_str())?;
+            let name = escaped_text(alloc, name.as_str())?;
             format!(in alloc; ", {name}")
         }
     }
@@ -152,18 +152,18 @@ fn pool_text(alloc: Global, pool: &[Resource]) -> Result<String, AllocError>
 
 /// What a node is called, as far as there is room: its DescriptiveName or, where it has none, its
 /// Type.
-fn called(
+fn node_title(
     alloc: Global,
     room: usize,
     row: &NodeRow,
     name: &Option<Text>,
 ) -> Result<String, AllocError>
     requires { 1 ≤ room }
-    ensures { IfOk result (λ made. string_bytes made ≡ rows.called room row.now name.now) }
+    ensures { IfOk result (λ made. string_bytes made ≡ rows.node_title room row.now name.now) }
 {
     match name {
-        None => shortened(alloc, room, row.kind.as_str()),
-        Some(name) => shortened(alloc, room, name.as_str()),
+        None => short_text(alloc, room, row.kind.as_str()),
+        Some(name) => short_text(alloc, room, name.as_str()),
     }
 }
 
@@ -172,8 +172,8 @@ fn node_label(alloc: Global, row: &NodeRow) -> Result<String, AllocError>
     ensures { IfOk result (λ made. string_bytes made ≡ rows.node_label row.now) }
 {
     let room = room_behind(34, 20, row.id.as_str());
-    let id = shortened(alloc, 20, row.id.as_str())?;
-    let name = called(alloc, room, row, &descriptive_name(alloc, row)?)?;
+    let id = short_text(alloc, 20, row.id.as_str())?;
+    let name = node_title(alloc, room, row, &descriptive_name(alloc, row)?)?;
     format!(in alloc; "<tspan class='b'>{id}</tspan> {name}")
 }
 
@@ -192,7 +192,7 @@ fn node_drawn(alloc: Global, row: &NodeRow, progress: Progress) -> Result<String
 fn node_facts(alloc: Global, row: &NodeRow, held: &Option<SpawnId>) -> Result<String, AllocError>
     ensures { IfOk result (λ made. string_bytes made ≡ rows.node_facts row.now held.now) }
 {
-    let status = shortened(alloc, 13, row.status.as_str())?;
+    let status = short_text(alloc, 13, row.status.as_str())?;
     let status = label(alloc, "s", 410, 18, status.as_str())?;
     let holder = label(alloc, "s b", 514, 18, held_text(alloc, held)?.as_str())?;
     let pool = pool_text(alloc, row.resources.as_slice())?;

@@ -34,8 +34,8 @@ pub fn held_text(alloc: Global, held: &Option<SpawnId>) -> Result<String, AllocE
 }
 
 /// What is drawn in a place of its own.
-pub fn placed(alloc: Global, x: u64, y: u64, drawn: &str) -> Result<String, AllocError>
-    ensures { IfOk result (λ made. string_bytes made ≡ svg.placed x y drawn.now) }
+pub fn placed_drawing(alloc: Global, x: u64, y: u64, drawn: &str) -> Result<String, AllocError>
+    ensures { IfOk result (λ made. string_bytes made ≡ svg.placed_drawing x y drawn.now) }
 {
     format!(in alloc; "<g transform='translate({x} {y})'>{drawn}</g>\n")
 }

@@ -57,9 +57,9 @@ fn chars_of(alloc: Global, text: &str) -> Result<Vec<char>, AllocError>
 }
 
 /// A text in XML.
-pub fn escaped(alloc: Global, text: &str) -> Result<String, AllocError>
+pub fn escaped_text(alloc: Global, text: &str) -> Result<String, AllocError>
     // Proved: A text is escaped for XML.
-    ensures { IfOk result (λ made. string_bytes made ≡ texts.escaped text.now) }
+    ensures { IfOk result (λ made. string_bytes made ≡ texts.escaped_text text.now) }
 {
     escaped_chars(alloc, chars_of(alloc, text)?.as_slice())
 }
@@ -80,10 +80,10 @@ pub fn room_behind(room: usize, most: usize, text: &str) -> usize
 
 /// A text in XML that has `most` characters at most, of which the last is `…` where more were left
 /// out.
-#[tactic(auto, unfolding(crate::specs::Texts::shortened))]
-pub fn shortened(alloc: Global, most: usize, text: &str) -> Result<String, AllocError>
+#[tactic(auto, unfolding(crate::specs::Texts::short_text))]
+pub fn short_text(alloc: Global, most: usize, text: &str) -> Result<String, AllocError>
     requires { 1 ≤ most }
-    ensures { IfOk result (λ made. string_bytes made ≡ texts.shortened most text.now) }
+    ensures { IfOk result (λ made. string_bytes made ≡ texts.short_text most text.now) }
 {
     let characters = chars_of(alloc, text)?;
     if characters.as_slice().len() <= most {

@@ -9,7 +9,7 @@ use crate::moments::moment_text;
 use crate::node_line::NodeLine;
 use crate::progress::Progress;
 use crate::style::STYLE;
-use crate::svg::{label, placed, shape};
+use crate::svg::{label, placed_drawing, shape};
 use std::alloc::{AllocError, Global};
 
 /// How many cards there is room for.
@@ -103,9 +103,14 @@ fn tallies(alloc: Global, lines: &[NodeLine]) -> Result<String, AllocError>
 }
 
 /// How many are left out where there is room for so many, in words; nothing where none is.
-#[tactic(auto, unfolding(crate::specs::Wall::left_out))]
-fn left_out(alloc: Global, room: usize, count: usize, words: &str) -> Result<String, AllocError>
-    ensures { IfOk result (λ made. string_bytes made ≡ wall.left_out room count words.now) }
+#[tactic(auto, unfolding(crate::specs::Wall::count_left_out))]
+fn count_left_out(
+    alloc: Global,
+    room: usize,
+    count: usize,
+    words: &str,
+) -> Result<String, AllocError>
+    ensures { IfOk result (λ made. string_bytes made ≡ wall.count_left_out room count words.now) }
 {
     if count <= room {
         return Ok(String::new(alloc));
@@ -118,7 +123,7 @@ fn left_out(alloc: Global, room: usize, count: usize, words: &str) -> Result<Str
 fn cards_heading(alloc: Global, words: &str, count: usize) -> Result<String, AllocError>
     ensures { IfOk result (λ made. string_bytes made ≡ wall.cards_heading words.now count) }
 {
-    let others = left_out(alloc, MOST_CARDS, count, "without room here")?;
+    let others = count_left_out(alloc, MOST_CARDS, count, "without room here")?;
     let text = format!(in alloc; "{words}: {count}{others}")?;
     label(alloc, "h", 30, 136, text.as_str())
 }
@@ -151,7 +156,7 @@ fn nodes_words(
     ensures { IfOk result (λ made. string_bytes made ≡ wall.nodes_words room count undone) }
 {
     let folded = folded_words(alloc, room, count, undone)?;
-    let others = left_out(alloc, room, undone, "more without room here")?;
+    let others = count_left_out(alloc, room, undone, "more without room here")?;
     format!(in alloc; "Nodes: {count}{folded}{others}")
 }
 
@@ -195,7 +200,7 @@ fn push_placed_cards(alloc: Global, text: &mut Vec<u8>, cards: &[String]) -> Res
         let number = number as u64;
         let x = 30 + 470 * (number % 4);
         let y = 148 + 124 * (number / 4);
-        text.extend_from_slice(placed(alloc, x, y, card.as_str())?.as_bytes())?;
+        text.extend_from_slice(placed_drawing(alloc, x, y, card.as_str())?.as_bytes())?;
     }
     Ok(())
 }
@@ -278,7 +283,7 @@ fn push_placed_lines(
         let number = number as u64;
         let x = 30 + 627 * (number / rows);
         let y = u64::from(top) + 27 * (number % rows);
-        text.extend_from_slice(placed(alloc, x, y, line.text.as_str())?.as_bytes())?;
+        text.extend_from_slice(placed_drawing(alloc, x, y, line.text.as_str())?.as_bytes())?;
     }
     Ok(())
 }
@@ -305,7 +310,7 @@ fn push_nodes(
 }
 
 /// What stands above the cards and the nodes.
-fn upper(
+fn wall_head(
     alloc: Global,
     now: u64,
     title: &str,
@@ -313,7 +318,7 @@ fn upper(
     lines: &[NodeLine],
 ) -> Result<String, AllocError>
     ensures { IfOk result (λ made. string_bytes made
-        ≡ wall.upper now title.now closed.now (map line_of lines.now)) }
+        ≡ wall.wall_head now title.now closed.now (map line_of lines.now)) }
 {
     let drawn = drawn_text(alloc, now)?;
     let head = head(alloc, title, drawn.as_str())?;
@@ -341,7 +346,7 @@ pub fn push_wall(
         ++ wall.wall now title.now closed.now words.now (map string_bytes cards.now)
         (map line_of lines.items)) }
 {
-    let upper = upper(alloc, now, title, closed, lines.as_slice())?;
+    let upper = wall_head(alloc, now, title, closed, lines.as_slice())?;
     text.extend_from_slice(upper.as_bytes())?;
     push_cards(alloc, text, words, cards)?;
     let top = nodes_top(cards.len());

@@ -5,7 +5,7 @@ use Rattle.std.specs.Option.{option_map}
 use Rattle.serde_json.specs.Data.{Data, Members, member, no_members, number, object, string, unsigned}
 use Rattle.serde_json.specs.Written.{compact_text}
 use Rattle.ticket_items.specs.SpawnId.{spawn_text}
-pub use Rattle.controller.specs.Reply.{spawn_told, word_of}
+pub use Rattle.controller.specs.Reply.{spawn_of_reply, word_of}
 use Rattle.controller.specs.declared.reply.Reply.{Reply}
 use Rattle.journal.specs.declared.line.Step.{Step}
 
@@ -31,7 +31,7 @@ told_data by controller reply at what =
     (with_by by
     (member (codes "Controller") (string controller)
     (member (codes "Reply") (string (word_of reply))
-    (with_spawn (spawn_told reply)
+    (with_spawn (spawn_of_reply reply)
     (member (codes "Time") (number (unsigned at))
     (member (codes "What") (string what) no_members))))))
 

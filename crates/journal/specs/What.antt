@@ -22,10 +22,10 @@ message_word (Abort s) = type_of command.Abort
 message_word (Answer c s told) = answer_word c
 
 -- a name, if there is one
-abbrev pub named : Option (List ℕ) → Result (List ℕ) Refusal
-named None = Err NotProfile
-named (Some word) = Ok word
+abbrev pub name_or_refusal : Option (List ℕ) → Result (List ℕ) Refusal
+name_or_refusal None = Err NotProfile
+name_or_refusal (Some word) = Ok word
 
 -- the name that data has as an order: the text under `Order`
 abbrev pub order_named : Data → Result (List ℕ) Refusal
-order_named d = named (text_under (codes "Order") d)
+order_named d = name_or_refusal (text_under (codes "Order") d)

@@ -7,7 +7,7 @@ ghost use Rattle.journal.specs.Line as line;
 
 use controller::Reply;
 use json::Writer;
-use json_text::{finished, print_member, print_text};
+use json_text::{print_member, print_text, written_text};
 use std::alloc::{AllocError, Global};
 use ticket_items::Id;
 
@@ -39,7 +39,7 @@ fn print_by(out: &mut Writer, by: Option<&str>) -> Result<(), AllocError>
 /// Prints the spawn that a reply tells of, if it tells of one.
 fn print_spawn(alloc: Global, out: &mut Writer, reply: Reply) -> Result<(), AllocError>
     ensures { OnOk result (AreMembersPrinted
-        (line.with_spawn (line.spawn_told reply) no_members) out.old out.new) }
+        (line.with_spawn (line.spawn_of_reply reply) no_members) out.old out.new) }
 {
     match reply.spawn() {
         Some(spawn) => {
@@ -70,7 +70,7 @@ fn line_of(alloc: Global, step: &Step<'_>) -> Result<Vec<u8>, AllocError>
 {
     let mut out = Writer::new(Vec::new(alloc));
     print_step(alloc, &mut out, step)?;
-    let mut made = finished(out);
+    let mut made = written_text(out);
     made.push(b'\n')?;
     Ok(made)
 }

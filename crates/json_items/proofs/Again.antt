@@ -19,21 +19,21 @@ use Rattle.ticket_items.specs.declared.spawn_status.SpawnStatus.TheVariants.{Not
 use Rattle.ticket_items.specs.declared.spawn_status.SpawnStatus.TheVariants.{SpawnedRW}
 use Rattle.ticket_items.specs.declared.usage.Usage.{Usage}
 use Rattle.ticket_items.specs.declared.usage.Usage.TheVariants.{Input, Output}
-use Rattle.json_items.specs.Ancestors.{ancestor_draft, ancestor_data}
+use Rattle.json_items.specs.Ancestors.{ancestor_data, ancestor_form}
 use Rattle.json_items.specs.Attributes.{attr_members, attrs_data}
-use Rattle.json_items.specs.Audits.{notification_draft, spawned_draft, merged_draft, audit_draft}
+use Rattle.json_items.specs.Audits.{audit_form, merge_audit_form, notification_form, spawn_audit_form}
 use Rattle.json_items.specs.Audits.{audit_data}
-use Rattle.json_items.specs.Edits.{set_status_draft, set_attr_draft, set_resource_status_draft}
-use Rattle.json_items.specs.Edits.{set_resource_attr_draft, note_draft, add_node_draft}
-use Rattle.json_items.specs.Edits.{add_resource_draft, add_link_draft, setting_draft, adding_draft}
-use Rattle.json_items.specs.Edits.{edit_draft, edit_data}
-use Rattle.json_items.specs.Links.{usage_form, usage_data, link_draft, link_data}
-use Rattle.json_items.specs.Listed.{data_items, each, list_form, pool_draft, texts_data}
-use Rattle.json_source.specs.Read.{◌>>=◌, attrs_draft, text_pairs}
-use Rattle.json_items.specs.Resources.{own_resource, resource_draft, resource_data, raw_data}
-use Rattle.json_items.specs.Shown.{shown_draft, spawn_status_form, spawn_status_data}
-use Rattle.json_items.specs.Resources.{Marked}
-use Rattle.json_items.specs.declared.resources.shown_form.Shown.{Shown}
+use Rattle.json_items.specs.Edits.{set_attr_form, set_resource_status_form, set_status_form}
+use Rattle.json_items.specs.Edits.{add_node_form, note_form, set_resource_attr_form}
+use Rattle.json_items.specs.Edits.{add_link_form, add_resource_form, adding_form, setting_form}
+use Rattle.json_items.specs.Edits.{edit_data, edit_form}
+use Rattle.json_items.specs.Links.{link_data, link_form, usage_data, usage_form}
+use Rattle.json_items.specs.Listed.{data_items, items_read, list_form, pool_form, texts_data}
+use Rattle.json_source.specs.Read.{◌>>=◌, attrs_form, text_pairs}
+use Rattle.json_items.specs.Resources.{own_resource, raw_data, resource_data, resource_form}
+use Rattle.json_items.specs.Shown.{shown_form, spawn_status_data, spawn_status_form}
+use Rattle.json_items.specs.Resources.{MarkedResource}
+use Rattle.json_items.specs.declared.resources.shown_form.Showing.{Showing}
 
 pub text_again : (text : List ℕ) → as_str (string text) ≡ Some text
 text_again text = refl
@@ -45,7 +45,7 @@ more_at o x rest xs e f =
 
 -- each item of a list
 pub each_again : {X : Type 0} (form : Data → Option X) (data' : X → Data)
-    → ((x : X) → form (data' x) ≡ Some x) → (xs : List X) → each form (data_items data' xs)
+    → ((x : X) → form (data' x) ≡ Some x) → (xs : List X) → items_read form (data_items data' xs)
     ≡ Some xs
 each_again form data' again [] = refl
 each_again form data' again (x ∷ xs) =
@@ -59,7 +59,7 @@ list_again form data' again xs = each_again form data' again xs
 -- a list that may be absent
 pub pool_again : {X : Type 0} (form : Data → Option X) (data' : X → Data)
     → ((x : X) → form (data' x) ≡ Some x) → (xs : List X)
-    → pool_draft form (Some (array (data_items data' xs))) ≡ Some xs
+    → pool_form form (Some (array (data_items data' xs))) ≡ Some xs
 pool_again form data' again xs = each_again form data' again xs
 
 -- ---- links
@@ -68,8 +68,8 @@ pub usage_again : (u : Usage) → usage_form (usage_data u) ≡ Some u
 usage_again Input = refl
 usage_again Output = refl
 
-pub link_again : (l : Link) → link_draft (link_data l) ≡ Some l
-unfolding link_draft
+pub link_again : (l : Link) → link_form (link_data l) ≡ Some l
+unfolding link_form
 link_again l = ap (λ o. o >>= λ u. Some (record { rref = l.rref; usage = u })) (usage_again l.usage)
 
 -- ---- audits
@@ -77,8 +77,8 @@ link_again l = ap (λ o. o >>= λ u. Some (record { rref = l.rref; usage = u }))
 ids_again : (ids : List (List ℕ)) → list_form as_str (texts_data ids) ≡ Some ids
 ids_again ids = list_again as_str string text_again ids
 
-pub audit_again : (a : Audit) → audit_draft (audit_data a) ≡ Some a
-unfolding audit_draft notification_draft spawned_draft merged_draft
+pub audit_again : (a : Audit) → audit_form (audit_data a) ≡ Some a
+unfolding audit_form notification_form spawn_audit_form merge_audit_form
 audit_again (Notification time text) = refl
 audit_again (Spawned time jref spawn_id ro changed status) =
     ap (λ o. o >>= λ first. list_form as_str (texts_data changed) >>=
@@ -90,8 +90,8 @@ audit_again (Merged time jref merge_id overwritten) =
 
 -- ---- ancestors
 
-pub ancestor_again : (a : Ancestor) → ancestor_draft (ancestor_data a) ≡ Some a
-unfolding ancestor_draft
+pub ancestor_again : (a : Ancestor) → ancestor_form (ancestor_data a) ≡ Some a
+unfolding ancestor_form
 ancestor_again a = refl
 
 -- ---- attributes and resources
@@ -100,7 +100,7 @@ text_pairs_again : (pairs : Pairs) → text_pairs (attr_members pairs) ≡ Some 
 text_pairs_again [] = refl
 text_pairs_again (p ∷ pairs) = ap (option_map (λ ps. p ∷ ps)) (text_pairs_again pairs)
 
-pub attrs_again : (pairs : Pairs) → attrs_draft (attrs_data pairs) ≡ Some pairs
+pub attrs_again : (pairs : Pairs) → attrs_form (attrs_data pairs) ≡ Some pairs
 attrs_again pairs = text_pairs_again pairs
 
 pub spawn_status_again : (s : SpawnStatus) → spawn_status_form (spawn_status_data s) ≡ Some s
@@ -108,7 +108,7 @@ spawn_status_again NotSpawned = refl
 spawn_status_again SpawnedRO = refl
 spawn_status_again SpawnedRW = refl
 
-own_again : (shown : Shown) (r : Resource) → own_resource (resource_data shown r) ≡ Some r
+own_again : (shown : Showing) (r : Resource) → own_resource (resource_data shown r) ≡ Some r
 unfolding own_resource
 own_again shown r =
     ap (λ o. o >>=
@@ -116,8 +116,8 @@ own_again shown r =
     (record { id = r.id; name = r.name; class = r.class; status = r.status; attrs = attrs }))
     (attrs_again r.attrs)
 
-shown_again : (shown : Shown) (r : Resource) → shown_draft (resource_data shown r) ≡ Some shown
-unfolding shown_draft
+shown_again : (shown : Showing) (r : Resource) → shown_form (resource_data shown r) ≡ Some shown
+unfolding shown_form
 shown_again shown r =
     ap (λ o. o >>= λ ids. spawn_status_form (spawn_status_data shown.spawn_status) >>=
     λ s. Some (record { locked = shown.locked; spawn_ids = ids; spawn_status = s }))
@@ -129,20 +129,20 @@ shown_again shown r =
       spawn_status = s;
     })) (spawn_status_again shown.spawn_status)
 
-pub marked_again : (m : Marked) → resource_draft (raw_data m) ≡ Some m
-unfolding resource_draft
+pub marked_again : (m : MarkedResource) → resource_form (raw_data m) ≡ Some m
+unfolding resource_form
 marked_again m =
-    ap (λ o. o >>= λ r. shown_draft (raw_data m) >>=
+    ap (λ o. o >>= λ r. shown_form (raw_data m) >>=
     λ s. Some (record { resource = r; shown = s })) (own_again m.shown m.resource)
     ∙ ap (λ o. o >>= λ s. Some (record { resource = m.resource; shown = s }))
     (shown_again m.shown m.resource)
 
 -- ---- edits
 
-pub edit_again : (e : Edit) → edit_draft (edit_data e) ≡ Some e
-unfolding edit_draft adding_draft setting_draft set_status_draft set_attr_draft
-    set_resource_status_draft set_resource_attr_draft note_draft add_node_draft add_resource_draft
-    own_resource add_link_draft
+pub edit_again : (e : Edit) → edit_form (edit_data e) ≡ Some e
+unfolding edit_form adding_form setting_form set_status_form set_attr_form
+    set_resource_status_form set_resource_attr_form note_form add_node_form add_resource_form
+    own_resource add_link_form
 edit_again (SetStatus node status) = refl
 edit_again (SetAttr node name value) = refl
 edit_again (SetResStatus resource status) = refl

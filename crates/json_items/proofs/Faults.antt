@@ -5,7 +5,7 @@ use Rattle.std.specs.Option.{option_map}
 use Rattle.ticket_items.specs.FirstFault.{first_of, unless}
 use Rattle.ticket_items.specs.declared.refusal.Refusal.{Refusal}
 use Rattle.ticket_items.specs.declared.refusal.Refusal.TheVariants.{BadId, BadText}
-use Rattle.json_items.specs.Judged.{Finds, both_read, checked_fault, first_fault}
+use Rattle.json_items.specs.Validation.{Finds, both_read, checked_fault, first_fault}
 use Rattle.json_source.specs.Read.{◌>>=◌}
 
 pub bad_names : {X : Type 0} (names texts : X → Bool) (o : Option X) (x : X) → o ≡ Some x → names x ≡ false → option_map (first_fault names texts) o ≡ Some (Some BadId)

@@ -4,7 +4,7 @@ use Rattle.std.specs.Option.{option_map}
 use Rattle.std.specs.Prelude.{IsOkAnd, MatchResult}
 use Rattle.ticket_items.specs.declared.refusal.Refusal.{Refusal}
 use Rattle.json_items.proofs.Faults.{made_err, made_ok}
-use Rattle.json_items.specs.Judged.{Finds}
+use Rattle.json_items.specs.Validation.{Finds}
 
 -- is found of the draft, where a closure makes it
 pub mapped : {P R : Type 0} (post : P → R → Type 0) (fault : P → Option Refusal) (made_fault : R → Option Refusal) (make : P → R) (parts : Option P) (draft : Option R) (found : Result P Refusal) (r : Result R Refusal)

@@ -3,15 +3,15 @@ use Rattle.std.specs.Prelude.{ℕ, ◌&&◌, Bool, List, [], ◌∷◌, codes, O
 use Rattle.serde_json.specs.Data.{Data, no_members, member, string, object}
 use Rattle.ticket_items.specs.Names.{is_name}
 use Rattle.ticket_items.specs.declared.ancestor.Ancestor.{Ancestor}
-use Rattle.json_source.specs.Read.{◌>>=◌, provided, has_only, text_under}
+use Rattle.json_source.specs.Read.{◌>>=◌, some_if, has_only, text_under}
 
 -- what may stand in one
 abbrev pub ancestor_members : List (List ℕ)
 ancestor_members = codes "JobPartID" ∷ codes "NodeID" ∷ []
 
-unfoldable pub ancestor_draft : Data → Option Ancestor
-ancestor_draft d = do
-  _ ← provided (has_only ancestor_members d)
+unfoldable pub ancestor_form : Data → Option Ancestor
+ancestor_form d = do
+  _ ← some_if (has_only ancestor_members d)
   job_part ← text_under (codes "JobPartID") d
   node_id ← text_under (codes "NodeID") d
   Some (record { node_id = node_id; job_part = job_part })

@@ -9,27 +9,27 @@ use Rattle.ticket_items.specs.Names.{is_name, is_text}
 use Rattle.ticket_items.specs.declared.audit.Audit.{Audit}
 use Rattle.ticket_items.specs.declared.audit.Audit.TheVariants.{Notification, Spawned, Merged}
 use Rattle.json_items.specs.Listed.{texts_data, texts_under}
-use Rattle.json_source.specs.Read.{◌>>=◌, provided, has_only, text_under, number_under}
+use Rattle.json_source.specs.Read.{◌>>=◌, some_if, has_only, text_under, number_under}
 
 -- ---- read
 
 abbrev pub notification_members : List (List ℕ)
 notification_members = codes "Name" ∷ codes "Text" ∷ codes "TimeStamp" ∷ []
 
-unfoldable pub notification_draft : Data → Option Audit
-notification_draft d = do
-  _ ← provided (has_only notification_members d)
+unfoldable pub notification_form : Data → Option Audit
+notification_form d = do
+  _ ← some_if (has_only notification_members d)
   text ← text_under (codes "Text") d
   time ← number_under (codes "TimeStamp") d
   Some (Notification time text)
 
-abbrev pub spawned_members : List (List ℕ)
-spawned_members = codes "Name" ∷ codes "NewSpawnID" ∷ codes "Status" ∷ codes "TimeStamp"
+abbrev pub spawn_audit_members : List (List ℕ)
+spawn_audit_members = codes "Name" ∷ codes "NewSpawnID" ∷ codes "Status" ∷ codes "TimeStamp"
     ∷ codes "jRef" ∷ codes "rRefsROCopied" ∷ codes "rRefsRWCopied" ∷ []
 
-unfoldable pub spawned_draft : Data → Option Audit
-spawned_draft d = do
-  _ ← provided (has_only spawned_members d)
+unfoldable pub spawn_audit_form : Data → Option Audit
+spawn_audit_form d = do
+  _ ← some_if (has_only spawn_audit_members d)
   spawn_id ← text_under (codes "NewSpawnID") d
   status ← text_under (codes "Status") d
   time ← number_under (codes "TimeStamp") d
@@ -38,13 +38,13 @@ spawned_draft d = do
   rw ← texts_under (codes "rRefsRWCopied") d
   Some (Spawned time jref spawn_id ro rw status)
 
-abbrev pub merged_members : List (List ℕ)
-merged_members = codes "MergeID" ∷ codes "Name" ∷ codes "TimeStamp" ∷ codes "jRef"
+abbrev pub merge_audit_members : List (List ℕ)
+merge_audit_members = codes "MergeID" ∷ codes "Name" ∷ codes "TimeStamp" ∷ codes "jRef"
     ∷ codes "rRefsOverwritten" ∷ []
 
-unfoldable pub merged_draft : Data → Option Audit
-merged_draft d = do
-  _ ← provided (has_only merged_members d)
+unfoldable pub merge_audit_form : Data → Option Audit
+merge_audit_form d = do
+  _ ← some_if (has_only merge_audit_members d)
   merge_id ← text_under (codes "MergeID") d
   time ← number_under (codes "TimeStamp") d
   jref ← text_under (codes "jRef") d
@@ -52,12 +52,12 @@ merged_draft d = do
   Some (Merged time jref merge_id overwritten)
 
 -- an audit, of the kind that its `Name` names
-unfoldable pub audit_draft : Data → Option Audit
-audit_draft d = do
+unfoldable pub audit_form : Data → Option Audit
+audit_form d = do
   kind ← text_under (codes "Name") d
-  if bytes_eq kind (codes "Notification") then notification_draft d else
-      (if bytes_eq kind (codes "Spawned") then spawned_draft d else
-      (if bytes_eq kind (codes "Merged") then merged_draft d else None))
+  if bytes_eq kind (codes "Notification") then notification_form d else
+      (if bytes_eq kind (codes "Spawned") then spawn_audit_form d else
+      (if bytes_eq kind (codes "Merged") then merge_audit_form d else None))
 
 -- ---- ids, names and texts
 

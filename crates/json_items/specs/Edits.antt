@@ -10,7 +10,7 @@ use Rattle.ticket_items.specs.declared.edit.Edit.TheVariants.{SetResAttr, Note, 
 use Rattle.ticket_items.specs.declared.edit.Edit.TheVariants.{AddResource, AddLink}
 use Rattle.json_items.specs.Attributes.{attrs_data}
 use Rattle.json_items.specs.Links.{usage_named, usage_data, link_has_names}
-use Rattle.json_source.specs.Read.{◌>>=◌, provided, has_only, text_under}
+use Rattle.json_source.specs.Read.{◌>>=◌, some_if, has_only, text_under}
 use Rattle.json_items.specs.Resources.{own_resource, resource_has_names, resource_has_texts}
 
 -- ---- read
@@ -18,9 +18,9 @@ use Rattle.json_items.specs.Resources.{own_resource, resource_has_names, resourc
 abbrev pub set_status_members : List (List ℕ)
 set_status_members = codes "Edit" ∷ codes "Node" ∷ codes "Status" ∷ []
 
-unfoldable pub set_status_draft : Data → Option Edit
-set_status_draft d = do
-  _ ← provided (has_only set_status_members d)
+unfoldable pub set_status_form : Data → Option Edit
+set_status_form d = do
+  _ ← some_if (has_only set_status_members d)
   node ← text_under (codes "Node") d
   status ← text_under (codes "Status") d
   Some (SetStatus node status)
@@ -28,9 +28,9 @@ set_status_draft d = do
 abbrev pub set_attr_members : List (List ℕ)
 set_attr_members = codes "Edit" ∷ codes "Name" ∷ codes "Node" ∷ codes "Value" ∷ []
 
-unfoldable pub set_attr_draft : Data → Option Edit
-set_attr_draft d = do
-  _ ← provided (has_only set_attr_members d)
+unfoldable pub set_attr_form : Data → Option Edit
+set_attr_form d = do
+  _ ← some_if (has_only set_attr_members d)
   name ← text_under (codes "Name") d
   node ← text_under (codes "Node") d
   value ← text_under (codes "Value") d
@@ -39,9 +39,9 @@ set_attr_draft d = do
 abbrev pub set_resource_status_members : List (List ℕ)
 set_resource_status_members = codes "Edit" ∷ codes "Resource" ∷ codes "Status" ∷ []
 
-unfoldable pub set_resource_status_draft : Data → Option Edit
-set_resource_status_draft d = do
-  _ ← provided (has_only set_resource_status_members d)
+unfoldable pub set_resource_status_form : Data → Option Edit
+set_resource_status_form d = do
+  _ ← some_if (has_only set_resource_status_members d)
   resource ← text_under (codes "Resource") d
   status ← text_under (codes "Status") d
   Some (SetResStatus resource status)
@@ -49,9 +49,9 @@ set_resource_status_draft d = do
 abbrev pub set_resource_attr_members : List (List ℕ)
 set_resource_attr_members = codes "Edit" ∷ codes "Name" ∷ codes "Resource" ∷ codes "Value" ∷ []
 
-unfoldable pub set_resource_attr_draft : Data → Option Edit
-set_resource_attr_draft d = do
-  _ ← provided (has_only set_resource_attr_members d)
+unfoldable pub set_resource_attr_form : Data → Option Edit
+set_resource_attr_form d = do
+  _ ← some_if (has_only set_resource_attr_members d)
   name ← text_under (codes "Name") d
   resource ← text_under (codes "Resource") d
   value ← text_under (codes "Value") d
@@ -60,9 +60,9 @@ set_resource_attr_draft d = do
 abbrev pub note_members : List (List ℕ)
 note_members = codes "Edit" ∷ codes "Node" ∷ codes "Text" ∷ []
 
-unfoldable pub note_draft : Data → Option Edit
-note_draft d = do
-  _ ← provided (has_only note_members d)
+unfoldable pub note_form : Data → Option Edit
+note_form d = do
+  _ ← some_if (has_only note_members d)
   node ← text_under (codes "Node") d
   text ← text_under (codes "Text") d
   Some (Note node text)
@@ -71,9 +71,9 @@ abbrev pub add_node_members : List (List ℕ)
 add_node_members = codes "Edit" ∷ codes "ID" ∷ codes "JobPartID" ∷ codes "Node" ∷ codes "Status"
     ∷ codes "Type" ∷ []
 
-unfoldable pub add_node_draft : Data → Option Edit
-add_node_draft d = do
-  _ ← provided (has_only add_node_members d)
+unfoldable pub add_node_form : Data → Option Edit
+add_node_form d = do
+  _ ← some_if (has_only add_node_members d)
   id ← text_under (codes "ID") d
   job_part ← text_under (codes "JobPartID") d
   node ← text_under (codes "Node") d
@@ -86,9 +86,9 @@ abbrev pub add_resource_members : List (List ℕ)
 add_resource_members = codes "Attr" ∷ codes "Class" ∷ codes "Edit" ∷ codes "ID" ∷ codes "Name"
     ∷ codes "Node" ∷ codes "Status" ∷ []
 
-unfoldable pub add_resource_draft : Data → Option Edit
-add_resource_draft d = do
-  _ ← provided (has_only add_resource_members d)
+unfoldable pub add_resource_form : Data → Option Edit
+add_resource_form d = do
+  _ ← some_if (has_only add_resource_members d)
   node ← text_under (codes "Node") d
   resource ← own_resource d
   Some (AddResource node resource)
@@ -96,9 +96,9 @@ add_resource_draft d = do
 abbrev pub add_link_members : List (List ℕ)
 add_link_members = codes "Edit" ∷ codes "Node" ∷ codes "Usage" ∷ codes "rRef" ∷ []
 
-unfoldable pub add_link_draft : Data → Option Edit
-add_link_draft d = do
-  _ ← provided (has_only add_link_members d)
+unfoldable pub add_link_form : Data → Option Edit
+add_link_form d = do
+  _ ← some_if (has_only add_link_members d)
   node ← text_under (codes "Node") d
   word ← text_under (codes "Usage") d
   usage ← usage_named word
@@ -106,24 +106,24 @@ add_link_draft d = do
   Some (AddLink node (record { rref = rref; usage = usage }))
 
 -- of the kinds that change what is there, the one that a word names
-unfoldable pub setting_draft : List ℕ → Data → Option Edit
-setting_draft kind d =
-    if bytes_eq kind (codes "SetStatus") then set_status_draft d
-    else (if bytes_eq kind (codes "SetAttr") then set_attr_draft d
-    else (if bytes_eq kind (codes "SetResStatus") then set_resource_status_draft d
-    else (if bytes_eq kind (codes "SetResAttr") then set_resource_attr_draft d else None)))
+unfoldable pub setting_form : List ℕ → Data → Option Edit
+setting_form kind d =
+    if bytes_eq kind (codes "SetStatus") then set_status_form d
+    else (if bytes_eq kind (codes "SetAttr") then set_attr_form d
+    else (if bytes_eq kind (codes "SetResStatus") then set_resource_status_form d
+    else (if bytes_eq kind (codes "SetResAttr") then set_resource_attr_form d else None)))
 
 -- of those that add something
-unfoldable pub adding_draft : List ℕ → Data → Option Edit
-adding_draft kind d =
-    if bytes_eq kind (codes "Note") then note_draft d
-    else (if bytes_eq kind (codes "AddNode") then add_node_draft d
-    else (if bytes_eq kind (codes "AddResource") then add_resource_draft d
-    else (if bytes_eq kind (codes "AddLink") then add_link_draft d else setting_draft kind d)))
+unfoldable pub adding_form : List ℕ → Data → Option Edit
+adding_form kind d =
+    if bytes_eq kind (codes "Note") then note_form d
+    else (if bytes_eq kind (codes "AddNode") then add_node_form d
+    else (if bytes_eq kind (codes "AddResource") then add_resource_form d
+    else (if bytes_eq kind (codes "AddLink") then add_link_form d else setting_form kind d)))
 
 -- an edit, of the kind that its `Edit` names
-unfoldable pub edit_draft : Data → Option Edit
-edit_draft d = text_under (codes "Edit") d >>= λ kind. adding_draft kind d
+unfoldable pub edit_form : Data → Option Edit
+edit_form d = text_under (codes "Edit") d >>= λ kind. adding_form kind d
 
 -- ---- ids, names and texts
 

@@ -1,6 +1,6 @@
 pub mod Listed
 pub mod Members
-pub mod Judged
+pub mod Validation
 pub mod Ancestors
 pub mod Audits
 pub mod Links

@@ -7,7 +7,7 @@ use Rattle.ticket_items.specs.Names.{is_name}
 use Rattle.ticket_items.specs.declared.link.Link.{Link}
 use Rattle.ticket_items.specs.declared.usage.Usage.{Usage}
 use Rattle.ticket_items.specs.declared.usage.Usage.TheVariants.{Input, Output}
-use Rattle.json_source.specs.Read.{◌>>=◌, provided, has_only, text_under}
+use Rattle.json_source.specs.Read.{◌>>=◌, some_if, has_only, text_under}
 
 -- ---- the Usage
 
@@ -33,9 +33,9 @@ usage_data u = string (usage_word u)
 abbrev pub link_members : List (List ℕ)
 link_members = codes "Usage" ∷ codes "rRef" ∷ []
 
-unfoldable pub link_draft : Data → Option Link
-link_draft d = do
-  _ ← provided (has_only link_members d)
+unfoldable pub link_form : Data → Option Link
+link_form d = do
+  _ ← some_if (has_only link_members d)
   word ← text_under (codes "Usage") d
   usage ← usage_named word
   rref ← text_under (codes "rRef") d

@@ -9,9 +9,9 @@ use Rattle.json_source.specs.Read.{◌>>=◌}
 -- ---- read
 
 -- what each item is, in order; nothing, where one is nothing of the form
-abbrev pub each : {X : Type 0} → (Data → Option X) → Items → Option (List X)
-each form no_items = Some []
-each form (item d ds) = form d >>= λ x. option_map (λ xs. x ∷ xs) (each form ds)
+abbrev pub items_read : {X : Type 0} → (Data → Option X) → Items → Option (List X)
+items_read form no_items = Some []
+items_read form (item d ds) = form d >>= λ x. option_map (λ xs. x ∷ xs) (items_read form ds)
 
 -- a list with one more behind it
 abbrev pub one_more : {X : Type 0} → Option (List X) → Option X → Option (List X)
@@ -22,7 +22,7 @@ one_more read next = do
 
 -- a list, each item by its form
 abbrev pub list_form : {X : Type 0} → (Data → Option X) → Data → Option (List X)
-list_form form d = as_array d >>= each form
+list_form form d = as_array d >>= items_read form
 
 -- the items of a list, none where it is absent
 abbrev pub pool_items : Option Data → Option Items
@@ -30,8 +30,8 @@ pool_items None = Some no_items
 pool_items (Some d) = as_array d
 
 -- a list that may be absent
-abbrev pub pool_draft : {X : Type 0} → (Data → Option X) → Option Data → Option (List X)
-pool_draft form found = pool_items found >>= each form
+abbrev pub pool_form : {X : Type 0} → (Data → Option X) → Option Data → Option (List X)
+pool_form form found = pool_items found >>= items_read form
 
 -- the items of the list under a name
 abbrev pub items_under : List ℕ → Data → Option Items
@@ -39,7 +39,7 @@ items_under name d = option_and_then as_array (get name d)
 
 -- the list of texts under a name
 abbrev pub texts_under : List ℕ → Data → Option (List (List ℕ))
-texts_under name d = items_under name d >>= each as_str
+texts_under name d = items_under name d >>= items_read as_str
 
 -- ---- written
 

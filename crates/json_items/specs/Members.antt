@@ -3,7 +3,7 @@ use Rattle.std.specs.Prelude.{ℕ, List, Option}
 use Rattle.std.specs.Option.{option_and_then}
 use Rattle.serde_json.specs.Data.{Data}
 use Rattle.serde_json.specs.Find.{get}
-use Rattle.json_items.specs.Judged.{both_read}
+use Rattle.json_items.specs.Validation.{both_read}
 
 -- what stands under two names
 abbrev pub two_form : {X Y : Type 0} → List ℕ → (Data → Option X) → List ℕ → (Data → Option Y)

@@ -9,39 +9,39 @@ use Rattle.ticket_items.specs.declared.ancestor.Ancestor.{Ancestor}
 use Rattle.ticket_items.specs.declared.node_row.NodeRow.{NodeRow}
 use Rattle.ticket_items.specs.declared.resource.Resource.{Resource}
 use Rattle.json_items.specs.TicketDraft.{RawRow, root_members, node_rows, resources_of, are_bare}
-use Rattle.json_items.specs.Listed.{each, items_under}
-use Rattle.json_items.specs.Resources.{Marked}
+use Rattle.json_items.specs.Listed.{items_read, items_under}
+use Rattle.json_items.specs.Resources.{MarkedResource}
 use Rattle.json_items.specs.Shown.{shows_change, shows_nothing, shows_read}
-use Rattle.json_source.specs.Read.{◌>>=◌, provided, text_under}
-use Rattle.json_items.specs.Ancestors.{ancestor_draft}
+use Rattle.json_source.specs.Read.{◌>>=◌, some_if, text_under}
+use Rattle.json_items.specs.Ancestors.{ancestor_form}
 use Rattle.json_items.specs.Spawns.{spawn_named}
 
 -- ---- the three groups of the resources of a part's root
 
 pub record Groups : Type 0 where
-  pub own : List Marked
-  pub rw : List Marked
-  pub ro : List Marked
+  pub own : List MarkedResource
+  pub rw : List MarkedResource
+  pub ro : List MarkedResource
 
 -- what stands behind the resources in front that pass a test
-abbrev pub behind : (Marked → Bool) → List Marked → List Marked
+abbrev pub behind : (MarkedResource → Bool) → List MarkedResource → List MarkedResource
 behind p raws = drop (prefix_len p raws) raws
 
-abbrev pub is_own : Marked → Bool
+abbrev pub is_own : MarkedResource → Bool
 is_own r = shows_nothing r.shown
 
-abbrev pub is_change : List ℕ → Marked → Bool
+abbrev pub is_change : List ℕ → MarkedResource → Bool
 is_change spawn r = shows_change spawn r.shown
 
-abbrev pub is_read : List ℕ → Marked → Bool
+abbrev pub is_read : List ℕ → MarkedResource → Bool
 is_read spawn r = shows_read spawn r.shown
 
 -- the root's own resources in front, then the copies to change, and all others are copies to read
-abbrev pub grouped : List ℕ → List Marked → Option Groups
-grouped spawn pool =
+abbrev pub groups_of : List ℕ → List MarkedResource → Option Groups
+groups_of spawn pool =
     let copies = behind is_own pool in
     let last = behind (is_change spawn) copies in
-    provided (list_all (is_read spawn) last) >>=
+    some_if (list_all (is_read spawn) last) >>=
     λ _. Some (record {
       own = take_while is_own pool;
       rw = take_while (is_change spawn) copies;
@@ -51,13 +51,13 @@ grouped spawn pool =
 -- ---- rows and copies
 
 -- rows without the copies that stood in the root's pool, and these copies
-pub record Taken : Type 0 where
+pub record RowsAndCopies : Type 0 where
   pub rows : List NodeRow
   pub rw : List Resource
   pub ro : List Resource
 
-abbrev pub taken_groups : NodeRow → List RawRow → Groups → Taken
-taken_groups root raws g =
+abbrev pub rows_and_copies_of : NodeRow → List RawRow → Groups → RowsAndCopies
+rows_and_copies_of root raws g =
     record {
       rows = record root { resources = resources_of g.own } ∷ map (λ r. r.row) raws;
       rw = resources_of g.rw;
@@ -65,16 +65,16 @@ taken_groups root raws g =
     }
 
 -- the copies taken out of the root's pool. The resources of the other nodes show nothing
-abbrev pub taken : List ℕ → List RawRow → Option Taken
-taken spawn [] = None
-taken spawn (root ∷ raws) = provided (list_all (λ r. are_bare r.pool) raws) >>=
-    λ _. grouped spawn root.pool >>= λ g. Some (taken_groups root.row raws g)
+abbrev pub rows_and_copies : List ℕ → List RawRow → Option RowsAndCopies
+rows_and_copies spawn [] = None
+rows_and_copies spawn (root ∷ raws) = some_if (list_all (λ r. are_bare r.pool) raws) >>=
+    λ _. groups_of spawn root.pool >>= λ g. Some (rows_and_copies_of root.row raws g)
 
 -- ---- ancestors
 
 -- those of the list under a name, which may not be absent
 abbrev pub ancestors_under : List ℕ → Data → Option (List Ancestor)
-ancestors_under name d = items_under name d >>= each ancestor_draft
+ancestors_under name d = items_under name d >>= items_read ancestor_form
 
 -- ---- parts
 
@@ -92,7 +92,7 @@ abbrev pub part_members : List (List ℕ)
 part_members = codes "AncestorPool" ∷ codes "SpawnID" ∷ root_members
 
 -- the part of these rows and copies
-abbrev pub raw_part : List ℕ → ℕ → List Ancestor → Taken → RawPart
+abbrev pub raw_part : List ℕ → ℕ → List Ancestor → RowsAndCopies → RawPart
 raw_part job spawn ancestors t =
     record {
       job_id = job;
@@ -103,11 +103,11 @@ raw_part job spawn ancestors t =
       ro = t.ro;
     }
 
-unfoldable pub part_draft : Data → Option RawPart
-part_draft d = do
+unfoldable pub part_form : Data → Option RawPart
+part_form d = do
   job ← text_under (codes "JobID") d
   spawn ← text_under (codes "SpawnID") d
   ancestors ← ancestors_under (codes "AncestorPool") d
   raws ← node_rows part_members 1 d
-  t ← taken spawn raws
+  t ← rows_and_copies spawn raws
   Some (raw_part job (spawn_named spawn) ancestors t)

@@ -5,7 +5,7 @@ use Rattle.std.specs.List.{list_all}
 use Rattle.std.specs.Option.{option_map_or}
 use Rattle.serde_json.specs.Data.{Data}
 use Rattle.ticket_items.specs.Names.{is_name}
-use Rattle.ticket_tree.specs.Part.{Copied}
+use Rattle.ticket_tree.specs.Part.{PartCopy}
 use Rattle.ticket_rows.specs.Copies.{with_copies}
 use Rattle.ticket_items.specs.SpawnId.{is_spawn_number}
 use Rattle.ticket_rows.specs.Ticket.{fault_of}
@@ -13,9 +13,9 @@ use Rattle.ticket_items.specs.declared.node_row.NodeRow.{NodeRow}
 use Rattle.ticket_items.specs.declared.refusal.Refusal.{Refusal}
 use Rattle.ticket_items.specs.declared.refusal.Refusal.TheVariants.{NotProfile}
 use Rattle.ticket_items.specs.declared.resource.Resource.{Resource}
-use Rattle.json_items.specs.Judged.{checked_fault, sound}
+use Rattle.json_items.specs.Validation.{checked_fault, checked_value}
 use Rattle.json_items.specs.TicketForm.{row_has_names, row_has_texts}
-use Rattle.json_items.specs.PartDraft.{RawPart, part_draft}
+use Rattle.json_items.specs.PartDraft.{RawPart, part_form}
 use Rattle.json_items.specs.Resources.{resource_has_names, resource_has_texts}
 use Rattle.json_items.specs.Ancestors.{ancestor_has_names}
 
@@ -61,8 +61,8 @@ abbrev pub part_fault : RawPart → Option Refusal
 part_fault p = checked_fault (has_names p) (has_texts p) (built_fault p)
 
 -- the part of a draft whose names are such
-abbrev pub copied : RawPart → Copied
-copied p = record {
+abbrev pub part_of_raw : RawPart → PartCopy
+part_of_raw p = record {
   job_id = p.job_id;
   spawn_id = p.spawn;
   ancestors = p.ancestors;
@@ -72,5 +72,5 @@ copied p = record {
 }
 
 -- the part that the data is
-abbrev pub part_read : Data → Result Copied Refusal
-part_read d = option_map_or (λ p. sound (part_fault p) (copied p)) (part_draft d) (Err NotProfile)
+abbrev pub part_read : Data → Result PartCopy Refusal
+part_read d = option_map_or (λ p. checked_value (part_fault p) (part_of_raw p)) (part_form d) (Err NotProfile)

@@ -6,9 +6,9 @@ use Rattle.ticket_items.specs.Names.{is_name}
 use Rattle.ticket_items.specs.declared.resource.Resource.{Resource}
 use Rattle.json_items.specs.Attributes.{attrs_have_names, attrs_have_texts, attrs_data}
 use Rattle.json_items.specs.Listed.{texts_data}
-use Rattle.json_source.specs.Read.{◌>>=◌, provided, has_only, text_under, attrs_of}
-use Rattle.json_items.specs.Shown.{shown_draft, spawn_status_data}
-use Rattle.json_items.specs.declared.resources.shown_form.Shown.{Shown}
+use Rattle.json_source.specs.Read.{◌>>=◌, some_if, has_only, text_under, attrs_of}
+use Rattle.json_items.specs.Shown.{shown_form, spawn_status_data}
+use Rattle.json_items.specs.declared.resources.shown_form.Showing.{Showing}
 
 -- ---- read
 
@@ -28,16 +28,16 @@ resource_members = codes "Attr" ∷ codes "Class" ∷ codes "ID" ∷ codes "Lock
     ∷ codes "SpawnIDs" ∷ codes "SpawnStatus" ∷ codes "Status" ∷ []
 
 -- a resource with what it shows of spawns
-pub record Marked : Type 0 where
+pub record MarkedResource : Type 0 where
   pub resource : Resource
-  pub shown : Shown
+  pub shown : Showing
 
 -- the resource that data is, with what it shows
-unfoldable pub resource_draft : Data → Option Marked
-resource_draft d = do
-  _ ← provided (has_only resource_members d)
+unfoldable pub resource_form : Data → Option MarkedResource
+resource_form d = do
+  _ ← some_if (has_only resource_members d)
   resource ← own_resource d
-  shown ← shown_draft d
+  shown ← shown_form d
   Some (record { resource = resource; shown = shown })
 
 -- ---- ids, names and texts
@@ -53,7 +53,7 @@ resource_has_texts r = attrs_have_texts r.attrs
 -- ---- written
 
 -- a resource that shows this of spawns
-abbrev pub resource_data : Shown → Resource → Data
+abbrev pub resource_data : Showing → Resource → Data
 resource_data shown r =
     object (member (codes "Attr") (attrs_data r.attrs)
     (member (codes "Class") (string r.class)
@@ -64,9 +64,9 @@ resource_data shown r =
     (member (codes "Status") (string r.status) no_members))))))))
 
 -- a resource with what it shows
-abbrev pub raw_data : Marked → Data
+abbrev pub raw_data : MarkedResource → Data
 raw_data m = resource_data m.shown m.resource
 
 -- resources that all show the same
-abbrev pub all_showing : Shown → List Resource → List Marked
+abbrev pub all_showing : Showing → List Resource → List MarkedResource
 all_showing shown rs = map (λ r. record { resource = r; shown = shown }) rs

@@ -13,13 +13,13 @@ use Rattle.serde_json.specs.Find.{get}
 use Rattle.ticket_rows.specs.Ticket.{Job}
 use Rattle.ticket_items.specs.declared.resource.Resource.{Resource}
 use Rattle.ticket_items.specs.declared.node_row.NodeRow.{NodeRow}
-use Rattle.json_items.specs.Audits.{audit_draft}
-use Rattle.json_items.specs.Listed.{pool_draft}
-use Rattle.json_items.specs.Resources.{Marked}
-use Rattle.json_items.specs.Resources.{resource_draft}
-use Rattle.json_items.specs.Links.{link_draft}
+use Rattle.json_items.specs.Audits.{audit_form}
+use Rattle.json_items.specs.Listed.{pool_form}
+use Rattle.json_items.specs.Resources.{MarkedResource}
+use Rattle.json_items.specs.Resources.{resource_form}
+use Rattle.json_items.specs.Links.{link_form}
 use Rattle.json_items.specs.Shown.{shows_nothing}
-use Rattle.json_source.specs.Read.{◌>>=◌, provided, has_only, text_under, attrs_of}
+use Rattle.json_source.specs.Read.{◌>>=◌, some_if, has_only, text_under, attrs_of}
 
 -- ---- nodes
 
@@ -41,28 +41,28 @@ next_depth depth = min (depth + 1) 33
 -- a node's row, and its resources with what they show of spawns
 pub record RawRow : Type 0 where
   pub row : NodeRow
-  pub pool : List Marked
+  pub pool : List MarkedResource
 
 -- the resources, without what they show
-abbrev pub resources_of : List Marked → List Resource
+abbrev pub resources_of : List MarkedResource → List Resource
 resources_of raws = map (λ r. r.resource) raws
 
 -- whether none of them shows anything
-abbrev pub are_bare : List Marked → Bool
+abbrev pub are_bare : List MarkedResource → Bool
 are_bare raws = list_all (λ r. shows_nothing r.shown) raws
 
 -- a node without its children
 unfoldable pub own_row : List (List ℕ) → ℕ → Data → Option RawRow
 own_row names depth d = do
-  _ ← provided (has_only names d)
+  _ ← some_if (has_only names d)
   id ← text_under (codes "ID") d
   job_part ← text_under (codes "JobPartID") d
   kind ← text_under (codes "Type") d
   status ← text_under (codes "Status") d
   attrs ← attrs_of (get (codes "Attr") d)
-  resources ← pool_draft resource_draft (get (codes "ResourcePool") d)
-  links ← pool_draft link_draft (get (codes "ResourceLinkPool") d)
-  audits ← pool_draft audit_draft (get (codes "AuditPool") d)
+  resources ← pool_form resource_form (get (codes "ResourcePool") d)
+  links ← pool_form link_form (get (codes "ResourceLinkPool") d)
+  audits ← pool_form audit_form (get (codes "AuditPool") d)
   Some (record {
     row = record {
       id = id;
@@ -124,8 +124,8 @@ raw_ticket job raws =
       bare = list_all (λ r. are_bare r.pool) raws;
     }
 
-unfoldable pub ticket_draft : Data → Option RawTicket
-ticket_draft d = do
+unfoldable pub ticket_form : Data → Option RawTicket
+ticket_form d = do
   job ← text_under (codes "JobID") d
   rows ← node_rows root_members 1 d
   Some (raw_ticket job rows)

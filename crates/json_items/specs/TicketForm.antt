@@ -11,9 +11,9 @@ use Rattle.ticket_items.specs.declared.edit.Edit.{Edit}
 use Rattle.ticket_items.specs.declared.refusal.Refusal.{Refusal}
 use Rattle.ticket_items.specs.declared.refusal.Refusal.TheVariants.{NotProfile}
 use Rattle.ticket_items.specs.declared.refusal.Refusal.TheVariants.{ReservedStatus}
-use Rattle.json_items.specs.Edits.{edit_draft, edit_has_names, edit_has_texts}
-use Rattle.json_items.specs.Judged.{sound, judged, checked_fault, first_fault}
-use Rattle.json_items.specs.TicketDraft.{RawTicket, ticket_draft}
+use Rattle.json_items.specs.Edits.{edit_form, edit_has_names, edit_has_texts}
+use Rattle.json_items.specs.Validation.{checked_draft, checked_fault, checked_value, first_fault}
+use Rattle.json_items.specs.TicketDraft.{RawTicket, ticket_form}
 use Rattle.json_items.specs.Resources.{resource_has_names, resource_has_texts}
 use Rattle.json_items.specs.Links.{link_has_names}
 use Rattle.json_items.specs.Audits.{audit_has_names, audit_has_texts}
@@ -71,8 +71,8 @@ edit_fault e = first_fault edit_has_names edit_has_texts e
 
 -- the ticket that the data is
 abbrev pub ticket_read : Data → Result Job Refusal
-ticket_read d = option_map_or (λ t. sound (ticket_fault t) t.job) (ticket_draft d) (Err NotProfile)
+ticket_read d = option_map_or (λ t. checked_value (ticket_fault t) t.job) (ticket_form d) (Err NotProfile)
 
 -- the edit that the data is
 abbrev pub edit_read : Data → Result Edit Refusal
-edit_read d = judged edit_fault (edit_draft d)
+edit_read d = checked_draft edit_fault (edit_form d)

@@ -1,54 +1,54 @@
 //! Edits, by the kind that their `Edit` names.
 
 ghost use Rattle.json_items.specs.Edits as edits;
-ghost use Rattle.json_items.specs.Judged.{Reads};
+ghost use Rattle.json_items.specs.Validation.{Reads};
 
 use crate::members::found_members::find_five;
-use crate::{Form, Judged, both, find_three, find_two, find_under, only, text_under};
+use crate::{Form, Validation, check_members, find_three, find_two, find_under, text_under, zip};
 use json_source::Source;
 use std::alloc::Global;
 use ticket_items::{Edit, Link, Refusal, Resource, Usage};
 
 /// A `SetStatus`.
-#[tactic(auto, unfolding(crate::specs::Edits::set_status_draft))]
-fn set_status<S: Source>(alloc: Global, value: &S) -> Result<Judged<Edit>, Refusal>
+#[tactic(auto, unfolding(crate::specs::Edits::set_status_form))]
+fn set_status<S: Source>(alloc: Global, value: &S) -> Result<Validation<Edit>, Refusal>
     ensures { Reads edits.edit_has_names edits.edit_has_texts result
-        (edits.set_status_draft (S.content value.now)) }
+        (edits.set_status_form (S.content value.now)) }
 {
-    only(value, &["Edit", "Node", "Status"])?;
+    check_members(value, &["Edit", "Node", "Status"])?;
     let found = find_two(alloc, value, "Node", "Status")?;
     Ok(found.map(|(node, status)| Edit::SetStatus { node, status }))
 }
 
 /// A `SetAttr`.
-#[tactic(auto, unfolding(crate::specs::Edits::set_attr_draft), using(crate::proofs::Tests::and_true))]
-fn set_attr<S: Source>(alloc: Global, value: &S) -> Result<Judged<Edit>, Refusal>
+#[tactic(auto, unfolding(crate::specs::Edits::set_attr_form), using(crate::proofs::Tests::and_true))]
+fn set_attr<S: Source>(alloc: Global, value: &S) -> Result<Validation<Edit>, Refusal>
     ensures { Reads edits.edit_has_names edits.edit_has_texts result
-        (edits.set_attr_draft (S.content value.now)) }
+        (edits.set_attr_form (S.content value.now)) }
 {
-    only(value, &["Edit", "Name", "Node", "Value"])?;
+    check_members(value, &["Edit", "Name", "Node", "Value"])?;
     let found = find_three(alloc, value, "Node", "Name", "Value")?;
     Ok(found.map(|((node, name), value)| Edit::SetAttr { node, name, value }))
 }
 
 /// A `SetResStatus`.
-#[tactic(auto, unfolding(crate::specs::Edits::set_resource_status_draft))]
-fn set_resource_status<S: Source>(alloc: Global, value: &S) -> Result<Judged<Edit>, Refusal>
+#[tactic(auto, unfolding(crate::specs::Edits::set_resource_status_form))]
+fn set_resource_status<S: Source>(alloc: Global, value: &S) -> Result<Validation<Edit>, Refusal>
     ensures { Reads edits.edit_has_names edits.edit_has_texts result
-        (edits.set_resource_status_draft (S.content value.now)) }
+        (edits.set_resource_status_form (S.content value.now)) }
 {
-    only(value, &["Edit", "Resource", "Status"])?;
+    check_members(value, &["Edit", "Resource", "Status"])?;
     let found = find_two(alloc, value, "Resource", "Status")?;
     Ok(found.map(|(resource, status)| Edit::SetResStatus { resource, status }))
 }
 
 /// A `SetResAttr`.
-#[tactic(auto, unfolding(crate::specs::Edits::set_resource_attr_draft), using(crate::proofs::Tests::and_true))]
-fn set_resource_attr<S: Source>(alloc: Global, value: &S) -> Result<Judged<Edit>, Refusal>
+#[tactic(auto, unfolding(crate::specs::Edits::set_resource_attr_form), using(crate::proofs::Tests::and_true))]
+fn set_resource_attr<S: Source>(alloc: Global, value: &S) -> Result<Validation<Edit>, Refusal>
     ensures { Reads edits.edit_has_names edits.edit_has_texts result
-        (edits.set_resource_attr_draft (S.content value.now)) }
+        (edits.set_resource_attr_form (S.content value.now)) }
 {
-    only(value, &["Edit", "Name", "Resource", "Value"])?;
+    check_members(value, &["Edit", "Name", "Resource", "Value"])?;
     let found = find_three(alloc, value, "Resource", "Name", "Value")?;
     Ok(found.map(|((resource, name), value)| Edit::SetResAttr {
         resource,
@@ -58,23 +58,23 @@ fn set_resource_attr<S: Source>(alloc: Global, value: &S) -> Result<Judged<Edit>
 }
 
 /// A `Note`.
-#[tactic(auto, unfolding(crate::specs::Edits::note_draft), using(crate::proofs::Tests::and_true))]
-fn note<S: Source>(alloc: Global, value: &S) -> Result<Judged<Edit>, Refusal>
+#[tactic(auto, unfolding(crate::specs::Edits::note_form), using(crate::proofs::Tests::and_true))]
+fn note<S: Source>(alloc: Global, value: &S) -> Result<Validation<Edit>, Refusal>
     ensures { Reads edits.edit_has_names edits.edit_has_texts result
-        (edits.note_draft (S.content value.now)) }
+        (edits.note_form (S.content value.now)) }
 {
-    only(value, &["Edit", "Node", "Text"])?;
+    check_members(value, &["Edit", "Node", "Text"])?;
     let found = find_two(alloc, value, "Node", "Text")?;
     Ok(found.map(|(node, text)| Edit::Note { node, text }))
 }
 
 /// An `AddNode`.
-#[tactic(auto, unfolding(crate::specs::Edits::add_node_draft))]
-fn add_node<S: Source>(alloc: Global, value: &S) -> Result<Judged<Edit>, Refusal>
+#[tactic(auto, unfolding(crate::specs::Edits::add_node_form))]
+fn add_node<S: Source>(alloc: Global, value: &S) -> Result<Validation<Edit>, Refusal>
     ensures { Reads edits.edit_has_names edits.edit_has_texts result
-        (edits.add_node_draft (S.content value.now)) }
+        (edits.add_node_form (S.content value.now)) }
 {
-    only(
+    check_members(
         value,
         &["Edit", "ID", "JobPartID", "Node", "Status", "Type"],
     )?;
@@ -89,28 +89,28 @@ fn add_node<S: Source>(alloc: Global, value: &S) -> Result<Judged<Edit>, Refusal
 }
 
 /// An `AddResource`. The new resource shows nothing of spawns.
-#[tactic(auto, unfolding(crate::specs::Edits::add_resource_draft))]
-fn add_resource<S: Source>(alloc: Global, value: &S) -> Result<Judged<Edit>, Refusal>
+#[tactic(auto, unfolding(crate::specs::Edits::add_resource_form))]
+fn add_resource<S: Source>(alloc: Global, value: &S) -> Result<Validation<Edit>, Refusal>
     ensures { Reads edits.edit_has_names edits.edit_has_texts result
-        (edits.add_resource_draft (S.content value.now)) }
+        (edits.add_resource_form (S.content value.now)) }
 {
-    only(
+    check_members(
         value,
         &["Attr", "Class", "Edit", "ID", "Name", "Node", "Status"],
     )?;
     let node = find_under(alloc, value, "Node")?;
     let resource = Resource::find(alloc, value)?;
-    let found = both(node, resource);
+    let found = zip(node, resource);
     Ok(found.map(|(node, resource)| Edit::AddResource { node, resource }))
 }
 
 /// An `AddLink`.
-#[tactic(auto, unfolding(crate::specs::Edits::add_link_draft))]
-fn add_link<S: Source>(alloc: Global, value: &S) -> Result<Judged<Edit>, Refusal>
+#[tactic(auto, unfolding(crate::specs::Edits::add_link_form))]
+fn add_link<S: Source>(alloc: Global, value: &S) -> Result<Validation<Edit>, Refusal>
     ensures { Reads edits.edit_has_names edits.edit_has_texts result
-        (edits.add_link_draft (S.content value.now)) }
+        (edits.add_link_form (S.content value.now)) }
 {
-    only(value, &["Edit", "Node", "Usage", "rRef"])?;
+    check_members(value, &["Edit", "Node", "Usage", "rRef"])?;
     let usage = find_under::<Usage, _>(alloc, value, "Usage")??;
     let found = find_two(alloc, value, "Node", "rRef")?;
     Ok(found.map(|(node, rref)| Edit::AddLink {
@@ -120,14 +120,14 @@ fn add_link<S: Source>(alloc: Global, value: &S) -> Result<Judged<Edit>, Refusal
 }
 
 impl Form for Edit {
-    ghost form = { edits.edit_draft };
+    ghost form = { edits.edit_form };
 
     ghost has_names = { edits.edit_has_names };
 
     ghost has_texts = { edits.edit_has_texts };
 
-    #[tactic(auto, unfolding(crate::specs::Edits::edit_draft, crate::specs::Edits::adding_draft, crate::specs::Edits::setting_draft))]
-    fn find<S: Source>(alloc: Global, value: &S) -> Result<Judged<Edit>, Refusal> {
+    #[tactic(auto, unfolding(crate::specs::Edits::edit_form, crate::specs::Edits::adding_form, crate::specs::Edits::setting_form))]
+    fn find<S: Source>(alloc: Global, value: &S) -> Result<Validation<Edit>, Refusal> {
         match text_under(value, "Edit").ok_or(Refusal::NotProfile)? {
             "Note" => note(alloc, value),
             "AddNode" => add_node(alloc, value),

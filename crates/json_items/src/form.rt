@@ -1,13 +1,13 @@
 ghost use Rattle.std.specs.Prelude.{Bool, Option};
 ghost use Rattle.serde_json.specs.Data.{Data};
-ghost use Rattle.json_items.specs.Judged.{Reads};
+ghost use Rattle.json_items.specs.Validation.{Reads};
 
 use json_source::Source;
 use std::alloc::Global;
 use ticket_items::Refusal;
 
 /// A value that was found, or the first of `BadId` and `BadText` that stands in it.
-pub type Judged<T> = Result<T, Refusal>;
+pub type Validation<T> = Result<T, Refusal>;
 
 /// A type that JSON data is read as.
 pub trait Form: Drop {
@@ -22,7 +22,7 @@ pub trait Form: Drop {
     ghost has_texts: { Self → Bool };
 
     /// What is found of it in a value. Refuses `NotProfile`, and `Memory`.
-    fn find<S: Source>(alloc: Global, value: &S) -> Result<Judged<Self>, Refusal>
+    fn find<S: Source>(alloc: Global, value: &S) -> Result<Validation<Self>, Refusal>
         // Proved: What is found of a value is what its form says: the value, in which nothing is
         // wrong, or the first of `BadId` and `BadText` that stands in it; or `NotProfile`, where
         // nothing of the form is there.
@@ -44,7 +44,11 @@ pub trait FormIn<W>: Drop {
     ghost texts_valid: { Self → Bool };
 
     /// What is found of it in a value. Refuses `NotProfile`, and `Memory`.
-    fn find_in<S: Source>(alloc: Global, value: &S, setting: &W) -> Result<Judged<Self>, Refusal>
+    fn find_in<S: Source>(
+        alloc: Global,
+        value: &S,
+        setting: &W,
+    ) -> Result<Validation<Self>, Refusal>
         ensures { Reads names_valid texts_valid result
             (form_in setting.now (S.content value.now)) };
 }
@@ -56,7 +60,11 @@ impl<T: Form> FormIn<()> for T {
 
     ghost texts_valid = { T.has_texts };
 
-    fn find_in<S: Source>(alloc: Global, value: &S, _setting: &()) -> Result<Judged<T>, Refusal> {
+    fn find_in<S: Source>(
+        alloc: Global,
+        value: &S,
+        _setting: &(),
+    ) -> Result<Validation<T>, Refusal> {
         T::find(alloc, value)
     }
 }

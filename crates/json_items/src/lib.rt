@@ -12,14 +12,14 @@ mod resources;
 mod texts;
 mod words;
 
-pub use form::{Form, FormIn, Judged};
+pub use form::{Form, FormIn, Validation};
 pub use lists::items_form::{find_list_in, push_found};
 pub use members::found_members::{
-    both, find_four, find_pool, find_three, find_two, find_under, whole_in,
+    find_four, find_pool, find_three, find_two, find_under, read_whole_in, zip,
 };
-pub use members::member::{number_under, only, text_under};
+pub use members::member::{check_members, number_under, text_under};
 pub use raw::Raw;
 pub use resources::attrs_form::find_attrs;
-pub use resources::shown_form::Shown;
+pub use resources::shown_form::Showing;
 pub use texts::any_text::AnyText;
 pub use texts::id_form::id_in;

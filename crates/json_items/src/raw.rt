@@ -1,5 +1,5 @@
 ghost use Rattle.std.specs.Prelude.{◌≡◌, ◌⊎◌, None, Option, Some, IfErr, IfOk, OnOk};
-ghost use Rattle.json_items.specs.Judged.{Answers, built_of};
+ghost use Rattle.json_items.specs.Validation.{Answers, built_value};
 ghost use Rattle.ticket_items.specs.declared.refusal.Refusal.{Refusal as RefusalSeen};
 
 use crate::Form;
@@ -29,10 +29,10 @@ pub trait Raw: Form {
 
     /// The whole of what is found in a value. Refuses the first of `NotProfile`, `BadId`, `BadText`
     /// and what else is wrong with it; `Memory` may come before any.
-    final fn whole<S: Source>(alloc: Global, value: &S) -> Result<Self::Whole, Refusal>
+    final fn read_whole<S: Source>(alloc: Global, value: &S) -> Result<Self::Whole, Refusal>
         // Proved: A whole of a value is answered, or refused for the first of `NotProfile`,
         // `BadId`, `BadText` and what else is wrong with it.
-        ensures { Answers result (built_of Self.has_names Self.has_texts late_fault made
+        ensures { Answers result (built_value Self.has_names Self.has_texts late_fault made
             (Self.form (S.content value.now))) }
     {
         let raw = Self::find(alloc, value)??;

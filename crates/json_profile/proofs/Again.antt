@@ -13,20 +13,20 @@ use Rattle.ticket_items.specs.declared.link.Link.{Link}
 use Rattle.ticket_items.specs.declared.marks.Marks.{Marks}
 use Rattle.ticket_items.specs.declared.node_row.NodeRow.{NodeRow}
 use Rattle.ticket_items.specs.declared.resource.Resource.{Resource}
-use Rattle.json_items.specs.Audits.{audit_draft}
-use Rattle.json_items.specs.TicketDraft.{RawRow, RawTicket, resources_of, are_bare, raw_ticket, own_row, node_rows, item_rows, next_depth, node_members, root_members, ticket_draft}
-use Rattle.json_items.specs.Listed.{pool_draft, data_items}
+use Rattle.json_items.specs.Audits.{audit_form}
+use Rattle.json_items.specs.TicketDraft.{RawRow, RawTicket, are_bare, item_rows, next_depth, node_members, node_rows, own_row, raw_ticket, resources_of, root_members, ticket_form}
+use Rattle.json_items.specs.Listed.{data_items, pool_form}
 use Rattle.json_items.specs.PartDraft.{part_members}
-use Rattle.json_items.specs.Resources.{Marked}
-use Rattle.json_items.specs.Resources.{resource_draft}
-use Rattle.json_items.specs.Links.{link_draft}
+use Rattle.json_items.specs.Resources.{MarkedResource}
+use Rattle.json_items.specs.Resources.{resource_form}
+use Rattle.json_items.specs.Links.{link_form}
 use Rattle.json_items.specs.Attributes.{attr_members}
 use Rattle.json_items.specs.Links.{link_data}
 use Rattle.json_items.specs.Audits.{audit_data}
 use Rattle.json_source.specs.Read.{◌>>=◌, text_pairs}
 use Rattle.json_text.specs.Marked.{no_marks, marked_pool, marked_row, marked_rows}
 use Rattle.json_text.specs.PartWritten.{part_root_data}
-use Rattle.json_text.specs.Written.{pool_data, node_data, root_data, Tree, children, others, trees, job_data}
+use Rattle.json_text.specs.Written.{Tree, children, job_data, node_data, pool_data, root_data, trees, trees_behind}
 use Rattle.json_items.proofs.Again.{attrs_again}
 use Rattle.json_profile.proofs.PoolAgain.{raw_resources-again, links-again, audits-again}
 
@@ -35,7 +35,7 @@ abbrev pub IsWhole : RawRow → Type 0
 IsWhole raw = resources_of raw.pool ≡ raw.row.resources
 
 -- what the parts of a row make
-abbrev made_row : NodeRow → Option Pairs → Option (List Marked) → Option (List Link) → Option (List Audit) → Option RawRow
+abbrev made_row : NodeRow → Option Pairs → Option (List MarkedResource) → Option (List Link) → Option (List Audit) → Option RawRow
 made_row r attrs resources links audits = do
   a ← attrs
   xs ← resources
@@ -46,7 +46,7 @@ made_row r attrs resources links audits = do
     pool = xs;
   })
 
-row_made : (raw : RawRow) (attrs : Option Pairs) (resources : Option (List Marked)) (links : Option (List Link)) (audits : Option (List Audit)) → IsWhole raw → attrs ≡ Some raw.row.attrs → resources ≡ Some raw.pool → links ≡ Some raw.row.links
+row_made : (raw : RawRow) (attrs : Option Pairs) (resources : Option (List MarkedResource)) (links : Option (List Link)) (audits : Option (List Audit)) → IsWhole raw → attrs ≡ Some raw.row.attrs → resources ≡ Some raw.pool → links ≡ Some raw.row.links
     → audits ≡ Some raw.row.audits → made_row raw.row attrs resources links audits ≡ Some raw
 row_made raw attrs resources links audits whole a x l u =
     let r = raw.row in
@@ -57,7 +57,7 @@ row_made raw attrs resources links audits whole a x l u =
       pool = raw.pool;
     })) whole
 
-row_again : (raw : RawRow) → IsWhole raw → made_row raw.row (text_pairs (attr_members raw.row.attrs)) (pool_draft resource_draft (Some (array (pool_data raw.pool)))) (pool_draft link_draft (Some (array (data_items link_data raw.row.links)))) (pool_draft audit_draft (Some (array (data_items audit_data raw.row.audits)))) ≡ Some raw
+row_again : (raw : RawRow) → IsWhole raw → made_row raw.row (text_pairs (attr_members raw.row.attrs)) (pool_form resource_form (Some (array (pool_data raw.pool)))) (pool_form link_form (Some (array (data_items link_data raw.row.links)))) (pool_form audit_form (Some (array (data_items audit_data raw.row.audits)))) ≡ Some raw
 row_again raw whole = row_made raw _ _ _ _ whole (attrs_again raw.row.attrs) (raw_resources-again raw.pool) (links-again raw.row.links) (audits-again raw.row.audits)
 
 -- a node's own members
@@ -133,22 +133,22 @@ abbrev pub Falls : ℕ → List Tree → Type 0
 Falls most [] = Unit {0}
 Falls most (t ∷ ts) = (t.depth ≤ most) × Falls t.depth ts
 
-falls_at : (deeper : Bool) (depth : ℕ) (t : Tree) (ts : List Tree) → nat_lt depth t.depth ≡ deeper → t.depth ≤ suc depth → Falls t.depth ts → (Falls (suc depth) ts → Falls depth (others depth ts)) → Falls depth (cond deeper (others depth ts) (t ∷ ts))
+falls_at : (deeper : Bool) (depth : ℕ) (t : Tree) (ts : List Tree) → nat_lt depth t.depth ≡ deeper → t.depth ≤ suc depth → Falls t.depth ts → (Falls (suc depth) ts → Falls depth (trees_behind depth ts)) → Falls depth (cond deeper (trees_behind depth ts) (t ∷ ts))
 falls_at true depth t ts e top rest go =
     let same : t.depth ≡ suc depth = omega (arith, ltb-true _ _ e) in
     go (subst (λ d. Falls d ts) same rest)
 falls_at false depth t ts e top rest go = (ltb-false _ _ e, rest)
 
-Falls-others : (depth : ℕ) (ts : List Tree) → Falls (suc depth) ts → Falls depth (others depth ts)
-Falls-others depth [] h = tt
-Falls-others depth (t ∷ ts) h = falls_at (nat_lt depth t.depth) depth t ts refl h.0 h.1 (Falls-others depth ts)
+Falls-trees_behind : (depth : ℕ) (ts : List Tree) → Falls (suc depth) ts → Falls depth (trees_behind depth ts)
+Falls-trees_behind depth [] h = tt
+Falls-trees_behind depth (t ∷ ts) h = falls_at (nat_lt depth t.depth) depth t ts refl h.0 h.1 (Falls-trees_behind depth ts)
 
 pub Falls-trees : (above : ℕ) (rows : List RawRow) → goes_on above (raw_depths rows) ≡ true → Falls (suc above) (trees rows)
 Falls-trees above [] h = tt
 Falls-trees above (r ∷ rows) h =
     let parts = and_parts _ _ h in
     let bounds = and_parts _ _ parts.0 in
-    (leb-true _ _ bounds.1, Falls-others r.row.depth (trees rows) (Falls-trees r.row.depth rows parts.1))
+    (leb-true _ _ bounds.1, Falls-trees_behind r.row.depth (trees rows) (Falls-trees r.row.depth rows parts.1))
 
 -- the rows of trees, each read at its depth
 abbrev pub tree_rows : List Tree → Option (List RawRow)
@@ -179,17 +179,17 @@ none_behind (Some kids) = ap Some (append-nil kids)
 -- ---- trees are read as their rows
 
 split_at : (deeper : Bool) (depth : ℕ) (t : Tree) (ts : List Tree) → nat_lt depth t.depth ≡ deeper → t.depth ≤ suc depth
-    → (Falls (suc depth) ts → tree_rows ts ≡ (item_rows (suc depth) (children depth ts) >>= λ kids. option_map (λ rest. kids ++ rest) (tree_rows (others depth ts)))) → Falls t.depth ts
-    → tree_rows (t ∷ ts) ≡ (item_rows (suc depth) (cond deeper (item t.value (children depth ts)) no_items) >>= λ kids. option_map (λ rest. kids ++ rest) (tree_rows (cond deeper (others depth ts) (t ∷ ts))))
+    → (Falls (suc depth) ts → tree_rows ts ≡ (item_rows (suc depth) (children depth ts) >>= λ kids. option_map (λ rest. kids ++ rest) (tree_rows (trees_behind depth ts)))) → Falls t.depth ts
+    → tree_rows (t ∷ ts) ≡ (item_rows (suc depth) (cond deeper (item t.value (children depth ts)) no_items) >>= λ kids. option_map (λ rest. kids ++ rest) (tree_rows (cond deeper (trees_behind depth ts) (t ∷ ts))))
 split_at true depth t ts e top go rest =
     let same : t.depth ≡ suc depth = omega (arith, ltb-true _ _ e) in
     ap (λ d. node_rows node_members d t.value >>= λ first. option_map (λ more. first ++ more) (tree_rows ts)) same
     ∙ ap (λ o. node_rows node_members (suc depth) t.value >>= λ first. option_map (λ more. first ++ more) o) (go (subst (λ d. Falls d ts) same rest))
-    ∙ joined (node_rows node_members (suc depth) t.value) (item_rows (suc depth) (children depth ts)) (tree_rows (others depth ts))
+    ∙ joined (node_rows node_members (suc depth) t.value) (item_rows (suc depth) (children depth ts)) (tree_rows (trees_behind depth ts))
 split_at false depth t ts e top go rest = sym (none_before (tree_rows (t ∷ ts)))
 
 -- the trees in front that stand deeper are a list of children, and the others follow
-tree_rows-split : (depth : ℕ) (ts : List Tree) → Falls (suc depth) ts → tree_rows ts ≡ (item_rows (suc depth) (children depth ts) >>= λ kids. option_map (λ rest. kids ++ rest) (tree_rows (others depth ts)))
+tree_rows-split : (depth : ℕ) (ts : List Tree) → Falls (suc depth) ts → tree_rows ts ≡ (item_rows (suc depth) (children depth ts) >>= λ kids. option_map (λ rest. kids ++ rest) (tree_rows (trees_behind depth ts)))
 tree_rows-split depth [] h = refl
 tree_rows-split depth (t ∷ ts) h = split_at (nat_lt depth t.depth) depth t ts refl h.0 (tree_rows-split depth ts) h.1
 
@@ -204,8 +204,8 @@ tree_rows-trees above (r ∷ rows) outline shallow whole =
     let within = and_parts _ _ shallow in
     let next : next_depth d ≡ suc d = next_within d (leb-true _ _ within.0) in
     let kids = children d (trees rows) in
-    ap (λ o. o >>= λ first. option_map (λ rest. first ++ rest) (tree_rows (others d (trees rows)))) (node_rows-node_data r kids whole.0 ∙ ap (λ n. option_map (λ more. r ∷ more) (item_rows n kids)) next)
-    ∙ first_before r (item_rows (suc d) kids) (tree_rows (others d (trees rows)))
+    ap (λ o. o >>= λ first. option_map (λ rest. first ++ rest) (tree_rows (trees_behind d (trees rows)))) (node_rows-node_data r kids whole.0 ∙ ap (λ n. option_map (λ more. r ∷ more) (item_rows n kids)) next)
+    ∙ first_before r (item_rows (suc d) kids) (tree_rows (trees_behind d (trees rows)))
     ∙ ap (option_map (λ more. r ∷ more)) (sym (tree_rows-split d (trees rows) (Falls-trees d rows parts.1)) ∙ tree_rows-trees d rows parts.1 within.1 whole.1)
 
 -- ---- the root's trees are its children
@@ -214,29 +214,29 @@ abbrev pub AllDeep : List Tree → Type 0
 AllDeep [] = Unit {0}
 AllDeep (t ∷ ts) = (2 ≤ t.depth) × AllDeep ts
 
-deep_at : (deeper : Bool) (depth : ℕ) (t : Tree) (ts : List Tree) → 2 ≤ t.depth → AllDeep ts → AllDeep (others depth ts) → AllDeep (cond deeper (others depth ts) (t ∷ ts))
+deep_at : (deeper : Bool) (depth : ℕ) (t : Tree) (ts : List Tree) → 2 ≤ t.depth → AllDeep ts → AllDeep (trees_behind depth ts) → AllDeep (cond deeper (trees_behind depth ts) (t ∷ ts))
 deep_at true depth t ts low rest go = go
 deep_at false depth t ts low rest go = (low, rest)
 
-AllDeep-others : (depth : ℕ) (ts : List Tree) → AllDeep ts → AllDeep (others depth ts)
-AllDeep-others depth [] h = tt
-AllDeep-others depth (t ∷ ts) h = deep_at (nat_lt depth t.depth) depth t ts h.0 h.1 (AllDeep-others depth ts h.1)
+AllDeep-trees_behind : (depth : ℕ) (ts : List Tree) → AllDeep ts → AllDeep (trees_behind depth ts)
+AllDeep-trees_behind depth [] h = tt
+AllDeep-trees_behind depth (t ∷ ts) h = deep_at (nat_lt depth t.depth) depth t ts h.0 h.1 (AllDeep-trees_behind depth ts h.1)
 
 AllDeep-trees : (above : ℕ) (rows : List RawRow) → goes_on above (raw_depths rows) ≡ true → AllDeep (trees rows)
 AllDeep-trees above [] h = tt
 AllDeep-trees above (r ∷ rows) h =
     let parts = and_parts _ _ h in
     let bounds = and_parts _ _ parts.0 in
-    (leb-true _ _ bounds.0, AllDeep-others r.row.depth (trees rows) (AllDeep-trees r.row.depth rows parts.1))
+    (leb-true _ _ bounds.0, AllDeep-trees_behind r.row.depth (trees rows) (AllDeep-trees r.row.depth rows parts.1))
 
-others-none : (ts : List Tree) → AllDeep ts → others 1 ts ≡ []
-others-none [] h = refl
-others-none (t ∷ ts) h = ap (λ b. cond b (others 1 ts) (t ∷ ts)) (lt-ltb 1 t.depth h.0) ∙ others-none ts h.1
+trees_behind-none : (ts : List Tree) → AllDeep ts → trees_behind 1 ts ≡ []
+trees_behind-none [] h = refl
+trees_behind-none (t ∷ ts) h = ap (λ b. cond b (trees_behind 1 ts) (t ∷ ts)) (lt-ltb 1 t.depth h.0) ∙ trees_behind-none ts h.1
 
 -- the trees behind a root are its children, and are read as their rows
 pub item_rows-trees : (rows : List RawRow) → goes_on 1 (raw_depths rows) ≡ true → raws_are_shallow rows ≡ true → AllWhole rows → item_rows 2 (children 1 (trees rows)) ≡ Some rows
 item_rows-trees rows outline shallow whole =
-    sym (none_behind (item_rows 2 (children 1 (trees rows)))) ∙ ap (λ ts. item_rows 2 (children 1 (trees rows)) >>= λ kids. option_map (λ rest. kids ++ rest) (tree_rows ts)) (sym (others-none (trees rows) (AllDeep-trees 1 rows outline)))
+    sym (none_behind (item_rows 2 (children 1 (trees rows)))) ∙ ap (λ ts. item_rows 2 (children 1 (trees rows)) >>= λ kids. option_map (λ rest. kids ++ rest) (tree_rows ts)) (sym (trees_behind-none (trees rows) (AllDeep-trees 1 rows outline)))
     ∙ sym (tree_rows-split 1 (trees rows) (Falls-trees 1 rows outline)) ∙ tree_rows-trees 1 rows outline shallow whole
 
 -- the same of rows that show marks
@@ -253,16 +253,16 @@ unmarked_ticket : (job : List ℕ) (rows : List NodeRow) → raw_ticket job (mar
 unmarked_ticket job rows =
     ap (λ rs. record { job = record { job_id = job; rows = rs }; bare = list_all (λ r. are_bare r.pool) (marked_rows no_marks rows) }) (unmarked_rows rows) ∙ ap (λ b. record { job = record { job_id = job; rows = rows }; bare = b }) (unmarked_bare rows)
 
-root_again : (job : List ℕ) (raw : RawRow) (kids : Items) (raws : List RawRow) → IsWhole raw → raw.row.depth ≡ 1 → item_rows 2 kids ≡ Some raws → ticket_draft (root_data job raw kids) ≡ Some (raw_ticket job (raw ∷ raws))
-unfolding ticket_draft
+root_again : (job : List ℕ) (raw : RawRow) (kids : Items) (raws : List RawRow) → IsWhole raw → raw.row.depth ≡ 1 → item_rows 2 kids ≡ Some raws → ticket_form (root_data job raw kids) ≡ Some (raw_ticket job (raw ∷ raws))
+unfolding ticket_form
 root_again job raw kids raws whole one read =
     let all : node_rows root_members 1 (root_data job raw kids) ≡ Some (raw ∷ raws) =
     ap (λ d. node_rows root_members d (root_data job raw kids)) (sym one) ∙ node_rows-root_data job raw kids whole ∙ ap (λ d. option_map (λ more. raw ∷ more) (item_rows (next_depth d) kids)) one ∙ ap (option_map (λ more. raw ∷ more)) read in
     ap (λ o. o >>= λ rows. Some (raw_ticket job rows)) all
 
-pub ticket_draft-ticket_data : (job : List ℕ) (rows : List NodeRow) → IsValid rows → ticket_draft (job_data job (marked_rows no_marks rows)) ≡ Some (bare_ticket job rows)
-ticket_draft-ticket_data job [] valid = absurd (true≢false (sym valid.tree))
-ticket_draft-ticket_data job (r ∷ rows) valid =
+pub ticket_form-ticket_data : (job : List ℕ) (rows : List NodeRow) → IsValid rows → ticket_form (job_data job (marked_rows no_marks rows)) ≡ Some (bare_ticket job rows)
+ticket_form-ticket_data job [] valid = absurd (true≢false (sym valid.tree))
+ticket_form-ticket_data job (r ∷ rows) valid =
     let parts = and_parts _ _ valid.tree in
     let one : r.depth ≡ 1 = eqb-true _ _ parts.0 in
     let within = and_parts _ _ valid.shallow in

@@ -15,19 +15,19 @@ use Rattle.ticket_rows.specs.Ticket.{Job, depths, ids, are_unreserved, are_shall
 use Rattle.ticket_items.specs.declared.audit.Audit.{Audit}
 use Rattle.ticket_items.specs.declared.link.Link.{Link}
 use Rattle.ticket_items.specs.declared.node_row.NodeRow.{NodeRow}
-use Rattle.json_items.specs.Audits.{audit_draft}
-use Rattle.json_items.specs.Listed.{pool_draft}
-use Rattle.json_items.specs.Resources.{Marked}
-use Rattle.json_items.specs.Resources.{resource_draft}
-use Rattle.json_items.specs.Links.{link_draft}
-use Rattle.json_items.specs.TicketDraft.{RawRow, RawTicket, resources_of, raw_ticket, own_row, node_rows, child_rows, list_rows, item_rows, next_depth, node_members, root_members, ticket_draft}
+use Rattle.json_items.specs.Audits.{audit_form}
+use Rattle.json_items.specs.Listed.{pool_form}
+use Rattle.json_items.specs.Resources.{MarkedResource}
+use Rattle.json_items.specs.Resources.{resource_form}
+use Rattle.json_items.specs.Links.{link_form}
+use Rattle.json_items.specs.TicketDraft.{RawRow, RawTicket, child_rows, item_rows, list_rows, next_depth, node_members, node_rows, own_row, raw_ticket, resources_of, root_members, ticket_form}
 use Rattle.json_profile.proofs.Again.{raw_depths}
 use Rattle.ticket_items.specs.Ids.{are_distinct}
 use Rattle.ticket_items.specs.declared.refusal.Refusal.{Refusal}
 use Rattle.ticket_items.specs.declared.refusal.Refusal.TheVariants.{BadId, DuplicateId, TooDeep, ReservedStatus, BadText, NotATree, NotProfile, UnresolvedLink, Memory}
-use Rattle.json_items.specs.Judged.{Answers, sound}
+use Rattle.json_items.specs.Validation.{Answers, checked_value}
 use Rattle.json_items.specs.TicketForm.{has_names, has_texts, built_fault, ticket_fault, ticket_read}
-use Rattle.json_source.specs.Read.{◌>>=◌, provided, has_only, text_under, attrs_of}
+use Rattle.json_source.specs.Read.{◌>>=◌, some_if, has_only, text_under, attrs_of}
 
 -- ---- a node's own row
 
@@ -35,14 +35,14 @@ use Rattle.json_source.specs.Read.{◌>>=◌, provided, has_only, text_under, at
 abbrev StandsAt : ℕ → RawRow → Type 0
 StandsAt depth r = r.row.depth ≡ depth
 
-pools_made : (depth : ℕ) (i j k s : List ℕ) (a : Pairs) (resources : Option (List Marked)) (links : Option (List Link)) (audits : Option (List Audit))
+pools_made : (depth : ℕ) (i j k s : List ℕ) (a : Pairs) (resources : Option (List MarkedResource)) (links : Option (List Link)) (audits : Option (List Audit))
     → IfSome {T = RawRow} (resources >>= λ xs. links >>= λ ls. audits >>= λ us. Some (record { row = record { id = i; depth = depth; kind = k; job_part = j; status = s; attrs = a; resources = resources_of xs; links = ls; audits = us }; pool = xs })) (StandsAt depth)
 pools_made depth i j k s a None links audits = tt
 pools_made depth i j k s a (Some xs) None audits = tt
 pools_made depth i j k s a (Some xs) (Some ls) None = tt
 pools_made depth i j k s a (Some xs) (Some ls) (Some us) = refl
 
-own_made : (depth : ℕ) (fits : Option ⊤) (id job_part kind status : Option (List ℕ)) (attrs : Option Pairs) (resources : Option (List Marked)) (links : Option (List Link)) (audits : Option (List Audit))
+own_made : (depth : ℕ) (fits : Option ⊤) (id job_part kind status : Option (List ℕ)) (attrs : Option Pairs) (resources : Option (List MarkedResource)) (links : Option (List Link)) (audits : Option (List Audit))
     → IfSome {T = RawRow} (fits >>= λ _. id >>= λ i. job_part >>= λ j. kind >>= λ k. status >>= λ s. attrs >>= λ a. resources >>= λ xs. links >>= λ ls. audits >>= λ us.
     Some (record { row = record { id = i; depth = depth; kind = k; job_part = j; status = s; attrs = a; resources = resources_of xs; links = ls; audits = us }; pool = xs })) (StandsAt depth)
 own_made depth None id job_part kind status attrs resources links audits = tt
@@ -56,8 +56,8 @@ own_made depth (Some u) (Some i) (Some j) (Some k) (Some s) (Some a) resources l
 own_depth : (names : List (List ℕ)) (depth : ℕ) (d : Data) → IfSome (own_row names depth d) (StandsAt depth)
 unfolding own_row
 own_depth names depth d =
-    own_made depth (provided (has_only names d)) (text_under (codes "ID") d) (text_under (codes "JobPartID") d) (text_under (codes "Type") d) (text_under (codes "Status") d) (attrs_of (get (codes "Attr") d))
-    (pool_draft resource_draft (get (codes "ResourcePool") d)) (pool_draft link_draft (get (codes "ResourceLinkPool") d)) (pool_draft audit_draft (get (codes "AuditPool") d))
+    own_made depth (some_if (has_only names d)) (text_under (codes "ID") d) (text_under (codes "JobPartID") d) (text_under (codes "Type") d) (text_under (codes "Status") d) (attrs_of (get (codes "Attr") d))
+    (pool_form resource_form (get (codes "ResourcePool") d)) (pool_form link_form (get (codes "ResourceLinkPool") d)) (pool_form audit_form (get (codes "AuditPool") d))
 
 -- ---- nodes below the root
 
@@ -166,8 +166,8 @@ job_made (Some j) None h = tt
 job_made (Some j) (Some rs) h = ap is_outline (depths-raw rs) ∙ h
 
 -- the rows of a ticket's draft are an outline
-pub draft_is_outline : (d : Data) → IfSome (ticket_draft d) (λ t. is_outline (depths t.job.rows) ≡ true)
-unfolding ticket_draft
+pub draft_is_outline : (d : Data) → IfSome (ticket_form d) (λ t. is_outline (depths t.job.rows) ≡ true)
+unfolding ticket_form
 draft_is_outline d = job_made (text_under (codes "JobID") d) (node_rows root_members 1 d) (root_is_tree root_members d)
 
 -- ---- what is wrong with a draft
@@ -201,22 +201,22 @@ draft_fault true false f h = tt
 draft_fault true true None h = tt
 draft_fault true true (Some e) h = h
 
-pub judged_other : {X : Type 0} (f : Option Refusal) (x : X) → IfSome f IsOther → IfErr (sound f x) IsOther
+pub judged_other : {X : Type 0} (f : Option Refusal) (x : X) → IfSome f IsOther → IfErr (checked_value f x) IsOther
 judged_other None x h = tt
 judged_other (Some e) x h = h
 
-ticket_other : (t : RawTicket) → is_outline (depths t.job.rows) ≡ true → IfErr (sound (ticket_fault t) t.job) IsOther
+ticket_other : (t : RawTicket) → is_outline (depths t.job.rows) ≡ true → IfErr (checked_value (ticket_fault t) t.job) IsOther
 ticket_other t h = judged_other (ticket_fault t) t.job (draft_fault (has_names t) (has_texts t) (built_fault t) (made_fault t.bare (fault_of t.job.rows) (fault_of-outline t.job.rows h)))
 
 pub memory_or : {X : Type 0} (e : Refusal) (read : Result X Refusal) → IfErr read IsOther → (e ≡ Memory) ⊎ (read ≡ Err e) → IsOther e
 memory_or e read h (inl m) = subst IsOther (sym m) tt
 memory_or e read h (inr r) = subst (λ x. IfErr x IsOther) r h
 
-read_other : (read : Option RawTicket) → IfSome read (λ t. is_outline (depths t.job.rows) ≡ true) → IfErr (option_map_or (λ t. sound (ticket_fault t) t.job) read (Err NotProfile)) IsOther
+read_other : (read : Option RawTicket) → IfSome read (λ t. is_outline (depths t.job.rows) ≡ true) → IfErr (option_map_or (λ t. checked_value (ticket_fault t) t.job) read (Err NotProfile)) IsOther
 read_other None h = tt
 read_other (Some t) h = ticket_other t h
 
 -- a ticket is never refused for rows that are no tree
 pub never_no_tree : (d : Data) (result : Result Job Refusal) → Answers result (ticket_read d) → IfErr result (λ e. e ≡ NotATree → ⊥)
 never_no_tree d (Ok x) h = tt
-never_no_tree d (Err e) h = λ same. subst IsOther same (memory_or e (ticket_read d) (read_other (ticket_draft d) (draft_is_outline d)) h)
+never_no_tree d (Err e) h = λ same. subst IsOther same (memory_or e (ticket_read d) (read_other (ticket_form d) (draft_is_outline d)) h)

@@ -8,12 +8,12 @@ use Rattle.ticket_items.specs.declared.audit.Audit.TheVariants.{Notification, Sp
 use Rattle.ticket_items.specs.declared.link.Link.{Link}
 use Rattle.ticket_items.specs.declared.resource.Resource.{Resource}
 use Rattle.json_items.specs.Listed.{data_items}
-use Rattle.json_items.specs.Resources.{Marked}
+use Rattle.json_items.specs.Resources.{MarkedResource}
 use Rattle.json_items.specs.Attributes.{attr_members}
 use Rattle.json_items.specs.Resources.{resource_data, raw_data}
 use Rattle.json_items.specs.Links.{link_data}
 use Rattle.json_items.specs.Audits.{audit_data}
-use Rattle.json_items.specs.declared.resources.shown_form.Shown.{Shown}
+use Rattle.json_items.specs.declared.resources.shown_form.Showing.{Showing}
 use Rattle.json_text.specs.PartWritten.{ancestor_data}
 use Rattle.json_text.specs.Written.{pool_data}
 
@@ -28,7 +28,7 @@ items_low form most low (x ∷ xs) = omega (arith, low x, items_low form most lo
 pub texts_flat : (texts : List (List ℕ)) → items_depth (data_items string texts) ≤ 0
 texts_flat texts = items_low string 0 (λ s. omega arith) texts
 
-pub resource_nests : (shown : Shown) (r : Resource) → depth (resource_data shown r) ≡ 2
+pub resource_nests : (shown : Showing) (r : Resource) → depth (resource_data shown r) ≡ 2
 resource_nests shown r = omega (arith, attrs_flat r.attrs, texts_flat shown.spawn_ids)
 
 -- 1 for a note, else 2
@@ -37,7 +37,7 @@ audit_nests (Notification time text) = omega arith
 audit_nests (Spawned time jref spawn_id ro changed status) = omega (arith, texts_flat ro, texts_flat changed)
 audit_nests (Merged time jref merge_id overwritten) = omega (arith, texts_flat overwritten)
 
-pub pool_low : (raws : List Marked) → items_depth (pool_data raws) ≤ 2
+pub pool_low : (raws : List MarkedResource) → items_depth (pool_data raws) ≤ 2
 pool_low raws = items_low raw_data 2 (λ r. omega (arith, resource_nests r.shown r.resource)) raws
 
 pub ancestors_low : (ancestors : List Ancestor) → items_depth (data_items ancestor_data ancestors) ≤ 1

@@ -11,9 +11,9 @@ use Rattle.ticket_items.specs.declared.edit.Edit.TheVariants.{SetStatus, SetAttr
 use Rattle.ticket_items.specs.declared.refusal.Refusal.{Refusal}
 use Rattle.ticket_items.specs.declared.refusal.Refusal.TheVariants.{NotProfile, NotATree, ReservedStatus, DuplicateId, TooDeep, UnresolvedLink, BadId, BadText}
 use Rattle.json_items.specs.TicketForm.{job_has_names, job_has_texts, ticket_fault, ticket_read}
-use Rattle.json_items.specs.Judged.{sound}
+use Rattle.json_items.specs.Validation.{checked_value}
 use Rattle.json_text.specs.Written.{ticket_data, edit_data}
-use Rattle.json_profile.proofs.Again.{ticket_draft-ticket_data}
+use Rattle.json_profile.proofs.Again.{ticket_form-ticket_data}
 use Rattle.json_text.proofs.Plain.{attrs_plain}
 use Rattle.json_profile.proofs.PoolShape.{attrs_flat}
 
@@ -44,8 +44,8 @@ three true false o p q r = cc
 
 pub ticket_again : (t : Job) → IsValid t.rows → job_has_names t ≡ true → job_has_texts t ≡ true → ticket_read (ticket_data t) ≡ Ok t
 ticket_again t valid names texts =
-    ap (λ o. option_map_or (λ raw. sound (ticket_fault raw) raw.job) o (Err NotProfile)) (ticket_draft-ticket_data t.job_id t.rows valid)
-    ∙ ap (λ f. sound f t) (three _ _ _ names texts (no_built_fault true (fault_of t.rows) refl (no_fault t.rows valid)))
+    ap (λ o. option_map_or (λ raw. checked_value (ticket_fault raw) raw.job) o (Err NotProfile)) (ticket_form-ticket_data t.job_id t.rows valid)
+    ∙ ap (λ f. checked_value f t) (three _ _ _ names texts (no_built_fault true (fault_of t.rows) refl (no_fault t.rows valid)))
 
 pub edit_plain : (e : Edit) → has_float (edit_data e) ≡ false
 edit_plain (SetStatus node status) = refl

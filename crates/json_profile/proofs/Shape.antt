@@ -3,7 +3,7 @@ use Rattle.std.proofs.Common.{◌≡◌, ℕ, max, ◌+◌, ◌*◌, ◌<◌, �
 use Rattle.std.proofs.lemmas.Bool.{and_parts, ltb-true, leb-true, or_from}
 use Rattle.serde_json.specs.Data.{Data, Items, no_items, item, depth, items_depth}
 use Rattle.serde_json.specs.Written.{has_float, items_have_float}
-use Rattle.ticket_tree.specs.Part.{Copied}
+use Rattle.ticket_tree.specs.Part.{PartCopy}
 use Rattle.ticket_rows.specs.Copies.{with_copies}
 use Rattle.ticket_items.specs.SpawnId.{spawn_text}
 use Rattle.ticket_rows.specs.Ticket.{Job, are_shallow}
@@ -14,7 +14,7 @@ use Rattle.ticket_items.specs.declared.resource.Resource.{Resource}
 use Rattle.json_items.specs.TicketDraft.{RawRow}
 use Rattle.json_text.specs.Marked.{no_marks, marked_rows}
 use Rattle.json_text.specs.PartWritten.{part_root_data, copied_root, rows_data, part_data}
-use Rattle.json_text.specs.Written.{node_data, root_data, Tree, children, others, trees, job_data, shown_data}
+use Rattle.json_text.specs.Written.{Tree, children, job_data, node_data, root_data, shown_data, trees, trees_behind}
 use Rattle.json_profile.proofs.Again.{raws_are_shallow, shallow-marked}
 use Rattle.json_text.proofs.Plain.{attrs_plain, audits_plain, links_plain, pool_plain, ancestors_plain}
 use Rattle.json_profile.proofs.PoolShape.{attrs_flat, audits_low, links_low, pool_low, ancestors_low}
@@ -52,11 +52,11 @@ children_plain : (d : ℕ) (ts : List Tree) → ArePlain ts → items_have_float
 children_plain d [] h = refl
 children_plain d (t ∷ ts) h = children_plain_at (nat_lt d t.depth) t (children d ts) h.0 (children_plain d ts h.1)
 
-others_plain_at : (deeper : Bool) (d : ℕ) (t : Tree) (ts : List Tree) → ArePlain (t ∷ ts) → ArePlain (others d ts) → ArePlain (cond deeper (others d ts) (t ∷ ts))
+others_plain_at : (deeper : Bool) (d : ℕ) (t : Tree) (ts : List Tree) → ArePlain (t ∷ ts) → ArePlain (trees_behind d ts) → ArePlain (cond deeper (trees_behind d ts) (t ∷ ts))
 others_plain_at true d t ts h rest = rest
 others_plain_at false d t ts h rest = h
 
-others_plain : (d : ℕ) (ts : List Tree) → ArePlain ts → ArePlain (others d ts)
+others_plain : (d : ℕ) (ts : List Tree) → ArePlain ts → ArePlain (trees_behind d ts)
 others_plain d [] h = tt
 others_plain d (t ∷ ts) h = others_plain_at (nat_lt d t.depth) d t ts h (others_plain d ts h.1)
 
@@ -74,7 +74,7 @@ rows_data_plain job spawn ancestors (r ∷ rows) changes reads =
     let raws = marked_rows no_marks rows in
     part_root_plain job spawn ancestors (copied_root spawn changes reads r) (children r.depth (trees raws)) (children_plain r.depth (trees raws) (trees_plain raws))
 
-pub part_data_plain : (p : Copied) → has_float (part_data p) ≡ false
+pub part_data_plain : (p : PartCopy) → has_float (part_data p) ≡ false
 part_data_plain p = rows_data_plain p.job_id (spawn_text p.spawn_id) p.ancestors p.rows p.rw p.ro
 
 -- ---- nesting
@@ -113,11 +113,11 @@ children_low : (d : ℕ) (ts : List Tree) → d ≤ 32 → AreLow ts → items_d
 children_low d [] within h = omega arith
 children_low d (t ∷ ts) within h = children_low_at (nat_lt d t.depth) d t (children d ts) refl within h.0 (children_low d ts within h.1)
 
-others_low_at : (deeper : Bool) (d : ℕ) (t : Tree) (ts : List Tree) → AreLow (t ∷ ts) → AreLow (others d ts) → AreLow (cond deeper (others d ts) (t ∷ ts))
+others_low_at : (deeper : Bool) (d : ℕ) (t : Tree) (ts : List Tree) → AreLow (t ∷ ts) → AreLow (trees_behind d ts) → AreLow (cond deeper (trees_behind d ts) (t ∷ ts))
 others_low_at true d t ts h rest = rest
 others_low_at false d t ts h rest = h
 
-others_low : (d : ℕ) (ts : List Tree) → AreLow ts → AreLow (others d ts)
+others_low : (d : ℕ) (ts : List Tree) → AreLow ts → AreLow (trees_behind d ts)
 others_low d [] h = tt
 others_low d (t ∷ ts) h = others_low_at (nat_lt d t.depth) d t ts h (others_low d ts h.1)
 
@@ -160,5 +160,5 @@ shallow_copies : (rows : List NodeRow) (changes reads : List Resource) → are_s
 shallow_copies [] changes reads = refl
 shallow_copies (r ∷ rows) changes reads = refl
 
-pub part_data_low : (p : Copied) → are_shallow (with_copies p.rows p.rw p.ro) ≡ true → depth (part_data p) ≤ 68
+pub part_data_low : (p : PartCopy) → are_shallow (with_copies p.rows p.rw p.ro) ≡ true → depth (part_data p) ≤ 68
 part_data_low p shallow = rows_data_nests p.job_id (spawn_text p.spawn_id) p.ancestors p.rows p.rw p.ro (sym (shallow_copies p.rows p.rw p.ro) ∙ shallow)

@@ -8,13 +8,13 @@ use Rattle.ticket_items.specs.declared.refusal.Refusal.TheVariants.{NotATree, Re
 use Rattle.ticket_items.specs.declared.resource.Resource.{Resource}
 use Rattle.ticket_items.specs.declared.spawn_status.SpawnStatus.TheVariants.{NotSpawned, SpawnedRO, SpawnedRW}
 use Rattle.ticket_items.specs.declared.usage.Usage.TheVariants.{Input, Output}
-use Rattle.json_items.specs.Audits.{notification_draft, spawned_draft, merged_draft, audit_draft}
+use Rattle.json_items.specs.Audits.{audit_form, merge_audit_form, notification_form, spawn_audit_form}
 use Rattle.json_items.specs.TicketDraft.{node_members, own_row}
 use Rattle.json_items.specs.TicketForm.{built_fault}
-use Rattle.json_items.specs.Listed.{pool_draft}
-use Rattle.json_items.specs.Resources.{own_resource, resource_draft}
-use Rattle.json_items.specs.Shown.{shown_draft}
-use Rattle.json_items.specs.Links.{link_draft}
+use Rattle.json_items.specs.Listed.{pool_form}
+use Rattle.json_items.specs.Resources.{own_resource, resource_form}
+use Rattle.json_items.specs.Shown.{shown_form}
+use Rattle.json_items.specs.Links.{link_form}
 use Rattle.json_items.specs.Resources.{resource_has_names}
 use Rattle.json_items.specs.Audits.{audit_has_names}
 use Rattle.json_items.specs.Shown.{nothing_shown, shows_nothing}
@@ -32,37 +32,37 @@ media_with more = object (member (codes "Class") (string (codes "Consumable")) (
 abbrev with_status : Members
 with_status = member (codes "Status") (string (codes "Available")) no_members
 
-absent_members : resource_draft (media_with with_status) ≡ Some (record { resource = media; shown = nothing_shown })
-unfolding resource_draft own_resource shown_draft
+absent_members : resource_form (media_with with_status) ≡ Some (record { resource = media; shown = nothing_shown })
+unfolding resource_form own_resource shown_form
 absent_members = refl
 
-no_status : resource_draft (media_with no_members) ≡ None
-unfolding resource_draft own_resource
+no_status : resource_form (media_with no_members) ≡ None
+unfolding resource_form own_resource
 no_status = refl
 
-spawned_for_reading : resource_draft (media_with (member (codes "SpawnIDs") (array (item (string (codes "S1")) no_items)) (member (codes "SpawnStatus") (string (codes "SpawnedRO")) with_status)))
+spawned_for_reading : resource_form (media_with (member (codes "SpawnIDs") (array (item (string (codes "S1")) no_items)) (member (codes "SpawnStatus") (string (codes "SpawnedRO")) with_status)))
     ≡ Some (record { resource = media; shown = record { locked = false; spawn_ids = codes "S1" ∷ []; spawn_status = SpawnedRO } })
-unfolding resource_draft own_resource shown_draft
+unfolding resource_form own_resource shown_form
 spawned_for_reading = refl
 
-other_spawn_status : resource_draft (media_with (member (codes "SpawnStatus") (string (codes "Spawned")) with_status)) ≡ None
-unfolding resource_draft own_resource shown_draft
+other_spawn_status : resource_form (media_with (member (codes "SpawnStatus") (string (codes "Spawned")) with_status)) ≡ None
+unfolding resource_form own_resource shown_form
 other_spawn_status = refl
 
-spawn_ids_of_numbers : resource_draft (media_with (member (codes "SpawnIDs") (array (item (number (unsigned 1)) no_items)) with_status)) ≡ None
-unfolding resource_draft own_resource shown_draft
+spawn_ids_of_numbers : resource_form (media_with (member (codes "SpawnIDs") (array (item (number (unsigned 1)) no_items)) with_status)) ≡ None
+unfolding resource_form own_resource shown_form
 spawn_ids_of_numbers = refl
 
-locked_as_text : resource_draft (object (member (codes "Class") (string []) (member (codes "ID") (string []) (member (codes "Locked") (string (codes "true")) (member (codes "Name") (string []) (member (codes "Status") (string []) no_members)))))) ≡ None
-unfolding resource_draft own_resource shown_draft
+locked_as_text : resource_form (object (member (codes "Class") (string []) (member (codes "ID") (string []) (member (codes "Locked") (string (codes "true")) (member (codes "Name") (string []) (member (codes "Status") (string []) no_members)))))) ≡ None
+unfolding resource_form own_resource shown_form
 locked_as_text = refl
 
-unknown_member : resource_draft (media_with (member (codes "Number") (number (unsigned 1)) with_status)) ≡ None
-unfolding resource_draft own_resource shown_draft
+unknown_member : resource_form (media_with (member (codes "Number") (number (unsigned 1)) with_status)) ≡ None
+unfolding resource_form own_resource shown_form
 unknown_member = refl
 
-no_object : resource_draft (string (codes "r1")) ≡ None
-unfolding resource_draft
+no_object : resource_form (string (codes "r1")) ≡ None
+unfolding resource_form
 no_object = refl
 
 media_named : resource_has_names media ≡ true
@@ -95,30 +95,30 @@ for_writing = refl
 abbrev r2_input : Data
 r2_input = object (member (codes "Usage") (string (codes "Input")) (member (codes "rRef") (string (codes "r2")) no_members))
 
-input : link_draft r2_input ≡ Some (record { rref = codes "r2"; usage = Input })
-unfolding link_draft
+input : link_form r2_input ≡ Some (record { rref = codes "r2"; usage = Input })
+unfolding link_form
 input = refl
 
-output : link_draft (object (member (codes "Usage") (string (codes "Output")) (member (codes "rRef") (string (codes "2")) no_members))) ≡ Some (record { rref = codes "2"; usage = Output })
-unfolding link_draft
+output : link_form (object (member (codes "Usage") (string (codes "Output")) (member (codes "rRef") (string (codes "2")) no_members))) ≡ Some (record { rref = codes "2"; usage = Output })
+unfolding link_form
 output = refl
 
-other_usage : link_draft (object (member (codes "Usage") (string (codes "input")) (member (codes "rRef") (string (codes "r2")) no_members))) ≡ None
-unfolding link_draft
+other_usage : link_form (object (member (codes "Usage") (string (codes "input")) (member (codes "rRef") (string (codes "r2")) no_members))) ≡ None
+unfolding link_form
 other_usage = refl
 
-absent_pool : pool_draft link_draft None ≡ Some []
+absent_pool : pool_form link_form None ≡ Some []
 absent_pool = refl
 
-one_link : pool_draft link_draft (Some (array (item r2_input no_items))) ≡ Some (record { rref = codes "r2"; usage = Input } ∷ [])
-unfolding link_draft
+one_link : pool_form link_form (Some (array (item r2_input no_items))) ≡ Some (record { rref = codes "r2"; usage = Input } ∷ [])
+unfolding link_form
 one_link = refl
 
-no_link_in_it : pool_draft link_draft (Some (array (item r2_input (item null no_items)))) ≡ None
-unfolding link_draft
+no_link_in_it : pool_form link_form (Some (array (item r2_input (item null no_items)))) ≡ None
+unfolding link_form
 no_link_in_it = refl
 
-no_list : pool_draft link_draft (Some r2_input) ≡ None
+no_list : pool_form link_form (Some r2_input) ≡ None
 no_list = refl
 
 link_written : link_data (record { rref = codes "r2"; usage = Input }) ≡ r2_input
@@ -129,39 +129,39 @@ link_written = refl
 abbrev note : Members → Data
 note more = object (member (codes "Name") (string (codes "Notification")) (member (codes "Text") (string (codes "late")) more))
 
-a_note : audit_draft (note (member (codes "TimeStamp") (number (unsigned 100)) no_members)) ≡ Some (Notification 100 (codes "late"))
-unfolding audit_draft notification_draft
+a_note : audit_form (note (member (codes "TimeStamp") (number (unsigned 100)) no_members)) ≡ Some (Notification 100 (codes "late"))
+unfolding audit_form notification_form
 a_note = refl
 
-time_as_text : audit_draft (note (member (codes "TimeStamp") (string (codes "100")) no_members)) ≡ None
-unfolding audit_draft notification_draft
+time_as_text : audit_form (note (member (codes "TimeStamp") (string (codes "100")) no_members)) ≡ None
+unfolding audit_form notification_form
 time_as_text = refl
 
-note_of_a_node : audit_draft (note (member (codes "TimeStamp") (number (unsigned 100)) (member (codes "jRef") (string (codes "n1")) no_members))) ≡ None
-unfolding audit_draft notification_draft
+note_of_a_node : audit_form (note (member (codes "TimeStamp") (number (unsigned 100)) (member (codes "jRef") (string (codes "n1")) no_members))) ≡ None
+unfolding audit_form notification_form
 note_of_a_node = refl
 
 abbrev times_and_node : Members → Members
 times_and_node more = member (codes "TimeStamp") (number (unsigned 100)) (member (codes "jRef") (string (codes "n1")) more)
 
-spawned : audit_draft (object (member (codes "Name") (string (codes "Spawned")) (member (codes "NewSpawnID") (string (codes "S1")) (member (codes "Status") (string (codes "Waiting"))
+spawned : audit_form (object (member (codes "Name") (string (codes "Spawned")) (member (codes "NewSpawnID") (string (codes "S1")) (member (codes "Status") (string (codes "Waiting"))
     (times_and_node (member (codes "rRefsROCopied") (array (item (string (codes "r1")) no_items)) (member (codes "rRefsRWCopied") (array (item (string (codes "r2")) no_items)) no_members)))))))
     ≡ Some (Spawned 100 (codes "n1") (codes "S1") (codes "r1" ∷ []) (codes "r2" ∷ []) (codes "Waiting"))
-unfolding audit_draft spawned_draft
+unfolding audit_form spawn_audit_form
 spawned = refl
 
-merged : audit_draft (object (member (codes "MergeID") (string (codes "S1")) (member (codes "Name") (string (codes "Merged")) (times_and_node (member (codes "rRefsOverwritten") (array no_items) no_members)))))
+merged : audit_form (object (member (codes "MergeID") (string (codes "S1")) (member (codes "Name") (string (codes "Merged")) (times_and_node (member (codes "rRefsOverwritten") (array no_items) no_members)))))
     ≡ Some (Merged 100 (codes "n1") (codes "S1") [])
-unfolding audit_draft merged_draft
+unfolding audit_form merge_audit_form
 merged = refl
 
 -- lists of ids may not be absent
-merged_without_list : audit_draft (object (member (codes "MergeID") (string (codes "S1")) (member (codes "Name") (string (codes "Merged")) (times_and_node no_members)))) ≡ None
-unfolding audit_draft merged_draft
+merged_without_list : audit_form (object (member (codes "MergeID") (string (codes "S1")) (member (codes "Name") (string (codes "Merged")) (times_and_node no_members)))) ≡ None
+unfolding audit_form merge_audit_form
 merged_without_list = refl
 
-other_audit : audit_draft (object (member (codes "Name") (string (codes "Created")) no_members)) ≡ None
-unfolding audit_draft
+other_audit : audit_form (object (member (codes "Name") (string (codes "Created")) no_members)) ≡ None
+unfolding audit_form
 other_audit = refl
 
 copied_no_id : audit_has_names (Spawned 100 (codes "n1") (codes "S1") (codes "r1" ∷ [] ∷ []) [] (codes "Waiting")) ≡ false
@@ -195,7 +195,7 @@ one_locked : own_row node_members 1 (node_with (member (codes "ResourceLinkPool"
       row = record { id = codes "n0"; depth = 1; kind = codes "Product"; job_part = codes "p0"; status = codes "Waiting"; attrs = []; resources = media ∷ media ∷ []; links = record { rref = codes "r2"; usage = Input } ∷ []; audits = [] };
       pool = record { resource = media; shown = nothing_shown } ∷ record { resource = media; shown = record { locked = true; spawn_ids = []; spawn_status = NotSpawned } } ∷ [];
     })
-unfolding own_row resource_draft own_resource shown_draft link_draft
+unfolding own_row resource_form own_resource shown_form link_form
 one_locked = refl
 
 job_id_of_a_child : own_row node_members 2 (object (member (codes "ID") (string (codes "n1")) (member (codes "JobID") (string (codes "J1")) no_members))) ≡ None

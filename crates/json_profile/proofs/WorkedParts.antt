@@ -3,7 +3,7 @@ use Rattle.std.proofs.Common.{◌≡◌, ℕ, true, false, Bool, List, [], ◌�
 use Rattle.std.specs.Fmt.{digits}
 use Rattle.std.specs.Prelude.{codes}
 use Rattle.serde_json.specs.Data.{Data, Items, no_items, item, no_members, member, boolean, string, array, object}
-use Rattle.ticket_tree.specs.Part.{Copied}
+use Rattle.ticket_tree.specs.Part.{PartCopy}
 use Rattle.ticket_items.specs.declared.marks.Marks.{Marks}
 use Rattle.ticket_items.specs.declared.node_row.NodeRow.{NodeRow}
 use Rattle.ticket_items.specs.declared.refusal.Refusal.TheVariants.{BadId, NotProfile, ReservedStatus}
@@ -12,18 +12,18 @@ use Rattle.ticket_items.specs.declared.spawn_status.SpawnStatus.TheVariants.{Spa
 use Rattle.ticket_items.specs.declared.usage.Usage.TheVariants.{Input, Output}
 use Rattle.json_items.specs.TicketDraft.{own_row}
 use Rattle.json_items.specs.TicketForm.{node_has_names, pools_have_names, row_has_texts}
-use Rattle.json_items.specs.Ancestors.{ancestor_draft}
-use Rattle.json_items.specs.PartDraft.{part_draft}
+use Rattle.json_items.specs.Ancestors.{ancestor_form}
+use Rattle.json_items.specs.PartDraft.{part_form}
 use Rattle.json_items.specs.Shown.{shows_change, shows_read, shown_rw, shown_ro}
 use Rattle.json_items.specs.Ancestors.{ancestor_has_names}
 use Rattle.json_items.specs.PartForm.{part_read}
-use Rattle.json_items.specs.Resources.{own_resource, resource_draft}
-use Rattle.json_items.specs.Shown.{shown_draft}
-use Rattle.json_items.specs.Links.{link_draft}
+use Rattle.json_items.specs.Resources.{own_resource, resource_form}
+use Rattle.json_items.specs.Shown.{shown_form}
+use Rattle.json_items.specs.Links.{link_form}
 use Rattle.json_items.specs.Resources.{resource_has_names, resource_has_texts}
 use Rattle.json_items.specs.Shown.{nothing_shown}
 use Rattle.json_items.specs.Resources.{resource_data}
-use Rattle.json_text.specs.Marked.{marked_rows, shown_of, no_marks}
+use Rattle.json_text.specs.Marked.{marked_rows, no_marks, showing_of}
 use Rattle.json_text.specs.PartWritten.{part_data}
 
 -- ---- the part of n1, with r2 to change and r1 to read
@@ -48,7 +48,7 @@ printing_row =
       audits = [];
     }
 
-abbrev printing : Copied
+abbrev printing : PartCopy
 printing =
     record { job_id = codes "J1"; spawn_id = 1; ancestors = record { node_id = codes "n0"; job_part = codes "p0" } ∷ []; rows = printing_row ∷ []; rw = component ∷ []; ro = media ∷ [] }
 
@@ -85,44 +85,44 @@ written : part_data printing ≡ whole
 unfolding digits
 written = refl
 
-drafted : part_draft whole ≡ Some (record { job_id = codes "J1"; spawn = 1; ancestors = printing.ancestors; rows = printing_row ∷ []; rw = component ∷ []; ro = media ∷ [] })
-unfolding part_draft own_row resource_draft own_resource shown_draft link_draft ancestor_draft
+drafted : part_form whole ≡ Some (record { job_id = codes "J1"; spawn = 1; ancestors = printing.ancestors; rows = printing_row ∷ []; rw = component ∷ []; ro = media ∷ [] })
+unfolding part_form own_row resource_form own_resource shown_form link_form ancestor_form
 drafted = refl
 
 read : part_read whole ≡ Ok printing
-unfolding part_draft own_row resource_draft own_resource shown_draft link_draft ancestor_draft ancestor_has_names node_has_names pools_have_names row_has_texts resource_has_names resource_has_texts
+unfolding part_form own_row resource_form own_resource shown_form link_form ancestor_form ancestor_has_names node_has_names pools_have_names row_has_texts resource_has_names resource_has_texts
 read = refl
 
 -- ---- refused
 
 groups_in_another_order : part_read (value_with (item (locked true) (item (free (codes "S1")) no_items)) (codes "S1") (codes "Waiting")) ≡ Err NotProfile
-unfolding part_draft own_row resource_draft own_resource shown_draft link_draft ancestor_draft
+unfolding part_form own_row resource_form own_resource shown_form link_form ancestor_form
 groups_in_another_order = refl
 
 own_behind_a_copy : part_read (value_with (item (free (codes "S1")) (item own_media no_items)) (codes "S1") (codes "Waiting")) ≡ Err NotProfile
-unfolding part_draft own_row resource_draft own_resource shown_draft link_draft ancestor_draft
+unfolding part_form own_row resource_form own_resource shown_form link_form ancestor_form
 own_behind_a_copy = refl
 
 copy_to_read_not_locked : part_read (value_with (item (free (codes "S1")) (item (locked false) no_items)) (codes "S1") (codes "Waiting")) ≡ Err NotProfile
-unfolding part_draft own_row resource_draft own_resource shown_draft link_draft ancestor_draft
+unfolding part_form own_row resource_form own_resource shown_form link_form ancestor_form
 copy_to_read_not_locked = refl
 
 copy_of_another_spawn : part_read (value_with (item (free (codes "S2")) (item (locked true) no_items)) (codes "S1") (codes "Waiting")) ≡ Err NotProfile
-unfolding part_draft own_row resource_draft own_resource shown_draft link_draft ancestor_draft
+unfolding part_form own_row resource_form own_resource shown_form link_form ancestor_form
 copy_of_another_spawn = refl
 
 no_ancestors : part_read (object (member (codes "ID") (string (codes "n1")) (member (codes "JobID") (string (codes "J1")) (member (codes "JobPartID") (string (codes "p1")) (member (codes "SpawnID") (string (codes "S1")) (member (codes "Status") (string (codes "Waiting")) (member (codes "Type") (string (codes "Cutting")) no_members))))))) ≡ Err NotProfile
-unfolding part_draft
+unfolding part_form
 no_ancestors = refl
 
 -- texts that are the same, and no spawn's id
 no_spawn : part_read (value_with (item (free (codes "S0")) no_items) (codes "S0") (codes "Spawned")) ≡ Err BadId
-unfolding part_draft own_row resource_draft own_resource shown_draft link_draft ancestor_draft ancestor_has_names node_has_names pools_have_names row_has_texts resource_has_names resource_has_texts
+unfolding part_form own_row resource_form own_resource shown_form link_form ancestor_form ancestor_has_names node_has_names pools_have_names row_has_texts resource_has_names resource_has_texts
 no_spawn = refl
 
 -- before what is wrong with its links
 status_spawned : part_read (value_with (item (free (codes "S1")) no_items) (codes "S1") (codes "Spawned")) ≡ Err ReservedStatus
-unfolding part_draft own_row resource_draft own_resource shown_draft link_draft ancestor_draft ancestor_has_names node_has_names pools_have_names row_has_texts resource_has_names resource_has_texts
+unfolding part_form own_row resource_form own_resource shown_form link_form ancestor_form ancestor_has_names node_has_names pools_have_names row_has_texts resource_has_names resource_has_texts
 status_spawned = refl
 
 -- ---- what copies show
@@ -152,11 +152,11 @@ marks =
     }
 
 -- the first mark counts
-media_shown : shown_of marks media ≡ record { locked = false; spawn_ids = codes "S1" ∷ codes "S20" ∷ []; spawn_status = SpawnedRO }
+media_shown : showing_of marks media ≡ record { locked = false; spawn_ids = codes "S1" ∷ codes "S20" ∷ []; spawn_status = SpawnedRO }
 unfolding digits
 media_shown = refl
 
-component_shown : shown_of marks component ≡ nothing_shown
+component_shown : showing_of marks component ≡ nothing_shown
 component_shown = refl
 
 node_shown : marked_rows marks (printing_row ∷ []) ≡ record { row = record printing_row { status = codes "Spawned" }; pool = [] } ∷ []

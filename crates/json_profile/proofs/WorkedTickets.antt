@@ -10,14 +10,14 @@ use Rattle.ticket_items.specs.declared.node_row.NodeRow.{NodeRow}
 use Rattle.ticket_items.specs.declared.refusal.Refusal.TheVariants.{NotProfile, BadId}
 use Rattle.ticket_items.specs.declared.resource.Resource.{Resource}
 use Rattle.ticket_items.specs.declared.usage.Usage.TheVariants.{Input, Output}
-use Rattle.json_items.specs.TicketDraft.{own_row, ticket_draft}
-use Rattle.json_items.specs.Edits.{edit_draft, adding_draft, setting_draft, set_status_draft}
-use Rattle.json_items.specs.Edits.{note_draft, add_link_draft}
+use Rattle.json_items.specs.TicketDraft.{own_row, ticket_form}
+use Rattle.json_items.specs.Edits.{adding_form, edit_form, set_status_form, setting_form}
+use Rattle.json_items.specs.Edits.{add_link_form, note_form}
 use Rattle.json_items.specs.TicketForm.{ticket_read, edit_read, node_has_names, pools_have_names}
 use Rattle.json_items.specs.TicketForm.{row_has_texts}
-use Rattle.json_items.specs.Resources.{own_resource, resource_draft}
-use Rattle.json_items.specs.Shown.{shown_draft}
-use Rattle.json_items.specs.Links.{link_draft}
+use Rattle.json_items.specs.Resources.{own_resource, resource_form}
+use Rattle.json_items.specs.Shown.{shown_form}
+use Rattle.json_items.specs.Links.{link_form}
 use Rattle.json_items.specs.Resources.{resource_has_names, resource_has_texts}
 use Rattle.json_text.specs.Written.{ticket_data, edit_data}
 
@@ -131,13 +131,13 @@ written : ticket_data job ≡ job_data
 written = refl
 
 read_again : ticket_read (ticket_data job) ≡ Ok job
-unfolding ticket_draft own_row resource_draft own_resource shown_draft link_draft
+unfolding ticket_form own_row resource_form own_resource shown_form link_form
     node_has_names pools_have_names row_has_texts resource_has_names resource_has_texts
 read_again = refl
 
 -- a ticket is no node alone: the job's id is missing
 no_job : ticket_read (object no_members) ≡ Err NotProfile
-unfolding ticket_draft
+unfolding ticket_form
 no_job = refl
 
 -- ---- edits
@@ -146,7 +146,7 @@ press_starts : edit_read (object (member (codes "Edit") (string (codes "SetStatu
     (codes "Node") (string (codes "n1")) (member (codes "Status") (string (codes "InProgress"))
     no_members))))
     ≡ Ok (SetStatus (codes "n1") (codes "InProgress"))
-unfolding edit_draft adding_draft setting_draft set_status_draft
+unfolding edit_form adding_form setting_form set_status_form
 press_starts = refl
 
 press_starts_written : edit_data (SetStatus (codes "n1") (codes "InProgress")) ≡ object (member
@@ -158,32 +158,32 @@ sheets_are_cut : edit_read (object (member (codes "Edit") (string (codes "AddLin
     (codes "Node") (string (codes "n2")) (member (codes "Usage") (string (codes "Input")) (member
     (codes "rRef") (string (codes "r2")) no_members)))))
     ≡ Ok (AddLink (codes "n2") sheets_in)
-unfolding edit_draft adding_draft add_link_draft
+unfolding edit_form adding_form add_link_form
 sheets_are_cut = refl
 
 -- an id doesn't begin with a digit
 no_id : edit_read (object (member (codes "Edit") (string (codes "Note")) (member (codes "Node")
     (string (codes "1n")) (member (codes "Text") (string (codes "late")) no_members))))
     ≡ Err BadId
-unfolding edit_draft adding_draft note_draft
+unfolding edit_form adding_form note_form
 no_id = refl
 
 -- a member is missing, one is too many, or the kind isn't one of the eight
 no_text : edit_read (object (member (codes "Edit") (string (codes "Note")) (member (codes "Node")
     (string (codes "n1")) no_members)))
     ≡ Err NotProfile
-unfolding edit_draft adding_draft note_draft
+unfolding edit_form adding_form note_form
 no_text = refl
 
 one_too_many : edit_read (object (member (codes "At") (number (unsigned 1)) (member (codes
     "Edit") (string (codes "Note")) (member (codes "Node") (string (codes "n1")) (member (codes
     "Text") (string (codes "late")) no_members)))))
     ≡ Err NotProfile
-unfolding edit_draft adding_draft note_draft
+unfolding edit_form adding_form note_form
 one_too_many = refl
 
 no_kind : edit_read (object (member (codes "Edit") (string (codes "Remove")) (member (codes
     "Node") (string (codes "n1")) no_members)))
     ≡ Err NotProfile
-unfolding edit_draft adding_draft setting_draft
+unfolding edit_form adding_form setting_form
 no_kind = refl

@@ -10,7 +10,7 @@ ghost use Rattle.json_text.specs.Written.{shown_data, ticket_data};
 ghost use Rattle.json_text.specs.Printed.{IsPrinted};
 
 use json::Writer;
-use json_text::{finished, no_marks};
+use json_text::{no_marks, written_text};
 use std::alloc::{AllocError, Global};
 use std::mem;
 use ticket_tree::{Marks, Part, Ticket};
@@ -52,7 +52,7 @@ pub fn push_shown_text(
 {
     let mut out = Writer::new(mem::replace(text, Vec::new(alloc)));
     json_text::print_ticket(alloc, &mut out, ticket, marks)?;
-    *text = finished(out);
+    *text = written_text(out);
     Ok(())
 }
 
@@ -78,6 +78,6 @@ pub fn push_part_text(alloc: Global, text: &mut Vec<u8>, part: &Part) -> Result<
 {
     let mut out = Writer::new(mem::replace(text, Vec::new(alloc)));
     json_text::print_part(alloc, &mut out, part)?;
-    *text = finished(out);
+    *text = written_text(out);
     Ok(())
 }

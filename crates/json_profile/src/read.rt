@@ -2,11 +2,11 @@
 
 ghost use Rattle.std.specs.Prelude.{◌≡◌, IfErr};
 ghost use Rattle.serde_json.specs.View.{view};
-ghost use Rattle.json_items.specs.Judged.{Answers};
+ghost use Rattle.json_items.specs.Validation.{Answers};
 ghost use Rattle.json_items.specs.TicketForm.{edit_read, ticket_read};
 ghost use Rattle.json_items.specs.PartForm.{part_read};
 
-use json_items::{Raw, whole_in};
+use json_items::{Raw, read_whole_in};
 use json_reader::{RawPart, RawTicket};
 use serde_json::Value;
 use std::alloc::Global;
@@ -23,7 +23,7 @@ pub fn ticket_of(alloc: Global, value: &Value) -> Result<Ticket, Refusal>
     ensures answers { Answers result (ticket_read (view value.now)) }
     ensures tree { IfErr result (λ e. e ≡ Refusal.NotATree → ⊥) }
 {
-    RawTicket::whole(alloc, value)
+    RawTicket::read_whole(alloc, value)
 }
 
 /// The part that a value is. Refuses the first of `NotProfile` (also where the resources of the
@@ -36,7 +36,7 @@ pub fn part_of(alloc: Global, value: &Value) -> Result<Part, Refusal>
     ensures answers { Answers result (part_read (view value.now)) }
     ensures tree { IfErr result (λ e. e ≡ Refusal.NotATree → ⊥) }
 {
-    RawPart::whole(alloc, value)
+    RawPart::read_whole(alloc, value)
 }
 
 /// The edit that a value is. Refuses the first of `NotProfile`, `BadId` and `BadText` that stands
@@ -44,5 +44,5 @@ pub fn part_of(alloc: Global, value: &Value) -> Result<Part, Refusal>
 pub fn edit_of(alloc: Global, value: &Value) -> Result<Edit, Refusal>
     ensures { Answers result (edit_read (view value.now)) }
 {
-    whole_in(alloc, value)
+    read_whole_in(alloc, value)
 }

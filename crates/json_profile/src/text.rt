@@ -7,7 +7,7 @@ ghost use Rattle.serde_json.specs.Written.{compact_text, has_float};
 ghost use Rattle.json_text.specs.Printed.{data_tokens, IsReadAgain};
 
 use json::Writer;
-use json_text::finished;
+use json_text::written_text;
 use serde_json::Value;
 use std::alloc::{AllocError, Global};
 use ticket_tree::Refusal;
@@ -36,7 +36,7 @@ pub fn value_printed(alloc: Global, out: Writer) -> Result<Value, AllocError>
     ensures { (d : Data) → out.before ≡ [] → out.tokens ≡ data_tokens d → IsReadAgain d
         → depth d ≤ max_depth → IfOk result (λ v. view v ≡ d) }
 {
-    let text = finished(out);
+    let text = written_text(out);
     match value_of(alloc, text.as_slice()) {
         Ok(value) => Ok(value),
         Err(_) => Err(AllocError),

@@ -13,7 +13,7 @@ ghost use Rattle.json_text.specs.Written.{edit_data, shown_data, ticket_data};
 use crate::print::{print_part, print_ticket};
 use crate::text::value_printed;
 use json::Writer;
-use json_text::Printed;
+use json_text::PrintForm;
 use serde_json::Value;
 use std::alloc::{AllocError, Global};
 use ticket_tree::{Edit, Marks, Part, Ticket};

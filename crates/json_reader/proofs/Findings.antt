@@ -3,7 +3,7 @@ use Rattle.std.proofs.Common.{◌≡◌, ◌∙◌, Bool, Option, Some, None, Re
 use Rattle.std.specs.Option.{option_map}
 use Rattle.std.specs.Prelude.{⊤, IsErrAnd, IsOkAnd, MatchResult, OnOk}
 use Rattle.ticket_items.specs.declared.refusal.Refusal.{Refusal}
-use Rattle.json_items.specs.Judged.{Finds, checked_fault, first_fault}
+use Rattle.json_items.specs.Validation.{Finds, checked_fault, first_fault}
 use Rattle.json_items.proofs.ListLemmas.{Fails-weaker}
 use Rattle.json_source.specs.Read.{Fails}
 use Rattle.json_reader.specs.Found.{FindsAs}

@@ -12,7 +12,7 @@ use Rattle.ticket_items.specs.declared.resource.Resource.{Resource}
 use Rattle.json_items.proofs.Tests.{all_true}
 use Rattle.json_items.specs.Ancestors.{ancestor_has_names}
 use Rattle.json_items.specs.Audits.{audit_has_names, audit_has_texts}
-use Rattle.json_items.specs.Judged.{first_fault, on_both}
+use Rattle.json_items.specs.Validation.{first_fault, on_both}
 use Rattle.json_items.specs.Links.{link_has_names}
 use Rattle.json_items.specs.PartDraft.{RawPart, raw_part}
 use Rattle.json_items.specs.PartForm.{copies_have_names, copies_have_texts, has_names, has_texts}

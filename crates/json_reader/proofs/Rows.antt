@@ -17,15 +17,15 @@ use Rattle.ticket_items.specs.declared.resource.Resource.{Resource}
 use Rattle.json_items.proofs.ListLemmas.{Fails-weaker}
 use Rattle.json_items.proofs.Tests.{all_true}
 use Rattle.json_items.specs.Attributes.{attrs_have_names, attrs_have_texts}
-use Rattle.json_items.specs.Audits.{audit_draft, audit_has_names, audit_has_texts}
-use Rattle.json_items.specs.Judged.{Finds, both_read, first_fault, on_both}
-use Rattle.json_items.specs.Links.{link_draft, link_has_names}
-use Rattle.json_items.specs.Listed.{one_more, pool_draft}
+use Rattle.json_items.specs.Audits.{audit_form, audit_has_names, audit_has_texts}
+use Rattle.json_items.specs.Validation.{Finds, both_read, first_fault, on_both}
+use Rattle.json_items.specs.Links.{link_form, link_has_names}
+use Rattle.json_items.specs.Listed.{one_more, pool_form}
 use Rattle.json_items.specs.Members.{four_form}
-use Rattle.json_items.specs.Resources.{Marked, resource_draft, resource_has_names, resource_has_texts}
+use Rattle.json_items.specs.Resources.{MarkedResource, resource_form, resource_has_names, resource_has_texts}
 use Rattle.json_items.specs.TicketDraft.{RawRow, are_bare, own_row, resources_of}
 use Rattle.json_items.specs.TicketForm.{node_has_names, pools_have_names, row_has_names, row_has_texts}
-use Rattle.json_source.specs.Read.{◌>>=◌, Fails, attrs_of, has_only, provided}
+use Rattle.json_source.specs.Read.{◌>>=◌, Fails, attrs_of, has_only, some_if}
 use Rattle.json_reader.proofs.Findings.{same_faults}
 use Rattle.json_reader.specs.Found.{IsFound}
 use Rattle.json_reader.specs.declared.found_nodes.FoundNodes.{FoundNodes}
@@ -48,7 +48,7 @@ row_of depth p = record {
   audits = p.0.1.1;
 }
 
-abbrev pub raw_of : ℕ → Own → List Marked → RawRow
+abbrev pub raw_of : ℕ → Own → List MarkedResource → RawRow
 raw_of depth o pool = record { row = row_of depth (o, resources_of pool); pool = pool }
 
 abbrev pub four : Data → Option (((List ℕ × List ℕ) × List ℕ) × List ℕ)
@@ -58,19 +58,19 @@ abbrev pub attrs : Data → Option Pairs
 attrs d = attrs_of (get (codes "Attr") d)
 
 abbrev pub links : Data → Option (List Link)
-links d = pool_draft link_draft (get (codes "ResourceLinkPool") d)
+links d = pool_form link_form (get (codes "ResourceLinkPool") d)
 
 abbrev pub audits : Data → Option (List Audit)
-audits d = pool_draft audit_draft (get (codes "AuditPool") d)
+audits d = pool_form audit_form (get (codes "AuditPool") d)
 
-abbrev pub pool_of : Data → Option (List Marked)
-pool_of d = pool_draft resource_draft (get (codes "ResourcePool") d)
+abbrev pub pool_of : Data → Option (List MarkedResource)
+pool_of d = pool_form resource_form (get (codes "ResourcePool") d)
 
 abbrev pub own_of : Data → Option Own
 own_of d = both_read (both_read (four d) (attrs d)) (both_read (links d) (audits d))
 
 -- the order in which the parts are read is free
-in_turn : (n : ℕ) (t : Option ⊤) (id job kind status : Option (List ℕ)) (attrs : Option Pairs) (resources : Option (List Marked)) (links : Option (List Link)) (audits : Option (List Audit))
+in_turn : (n : ℕ) (t : Option ⊤) (id job kind status : Option (List ℕ)) (attrs : Option Pairs) (resources : Option (List MarkedResource)) (links : Option (List Link)) (audits : Option (List Audit))
     → (t >>= λ _. id >>= λ i. job >>= λ j. kind >>= λ k. status >>= λ s. attrs >>= λ a. resources >>= λ x. links >>= λ y. audits >>= λ z. Some (raw_of n (((((i, k), j), s), a), (y, z)) x))
     ≡ (t >>= λ _. both_read (both_read (both_read (both_read (both_read id kind) job) status) attrs) (both_read links audits) >>= λ o. resources >>= λ x. Some (raw_of n o x))
 in_turn n None id job kind status attrs resources links audits = refl
@@ -87,24 +87,24 @@ in_turn n (Some u) (Some i) (Some j) (Some k) (Some s) (Some a) (Some x) None au
 in_turn n (Some u) (Some i) (Some j) (Some k) (Some s) (Some a) (Some x) (Some y) None = refl
 in_turn n (Some u) (Some i) (Some j) (Some k) (Some s) (Some a) (Some x) (Some y) (Some z) = refl
 
-in_parts : (names : List (List ℕ)) (n : ℕ) (d : Data) → own_row names n d ≡ (provided (has_only names d) >>= λ _. own_of d >>= λ o. pool_of d >>= λ x. Some (raw_of n o x))
+in_parts : (names : List (List ℕ)) (n : ℕ) (d : Data) → own_row names n d ≡ (some_if (has_only names d) >>= λ _. own_of d >>= λ o. pool_of d >>= λ x. Some (raw_of n o x))
 unfolding own_row
-in_parts names n d = in_turn n (provided (has_only names d)) _ _ _ _ (attrs d) (pool_of d) (links d) (audits d)
+in_parts names n d = in_turn n (some_if (has_only names d)) _ _ _ _ (attrs d) (pool_of d) (links d) (audits d)
 
-pub not_only : (names : List (List ℕ)) (n : ℕ) (d : Data) → provided (has_only names d) ≡ None → own_row names n d ≡ None
+pub not_only : (names : List (List ℕ)) (n : ℕ) (d : Data) → some_if (has_only names d) ≡ None → own_row names n d ≡ None
 not_only names n d none = in_parts names n d ∙ ap (λ t. t >>= λ _. own_of d >>= λ o. pool_of d >>= λ x. Some (raw_of n o x)) none
 
-behind_only : (names : List (List ℕ)) (n : ℕ) (d : Data) → provided (has_only names d) ≡ Some tt → own_row names n d ≡ (own_of d >>= λ o. pool_of d >>= λ x. Some (raw_of n o x))
+behind_only : (names : List (List ℕ)) (n : ℕ) (d : Data) → some_if (has_only names d) ≡ Some tt → own_row names n d ≡ (own_of d >>= λ o. pool_of d >>= λ x. Some (raw_of n o x))
 behind_only names n d only = in_parts names n d ∙ ap (λ t. t >>= λ _. own_of d >>= λ o. pool_of d >>= λ x. Some (raw_of n o x)) only
 
-pub own_fails : (names : List (List ℕ)) (n : ℕ) (d : Data) (e : Refusal) → provided (has_only names d) ≡ Some tt → Fails e (own_of d) → Fails e (own_row names n d)
+pub own_fails : (names : List (List ℕ)) (n : ℕ) (d : Data) (e : Refusal) → some_if (has_only names d) ≡ Some tt → Fails e (own_of d) → Fails e (own_row names n d)
 own_fails names n d e only = Fails-weaker e (own_of d) _ (λ none. behind_only names n d only ∙ ap (λ q. q >>= λ o. pool_of d >>= λ x. Some (raw_of n o x)) none)
 
 pub none_then : {X Y : Type 0} (o : Option X) (f : X → Option Y) → ((x : X) → f x ≡ None) → (o >>= f) ≡ None
 none_then None f none = refl
 none_then (Some x) f none = none x
 
-pub pool_fails : (names : List (List ℕ)) (n : ℕ) (d : Data) (e : Refusal) → provided (has_only names d) ≡ Some tt → Fails e (pool_of d) → Fails e (own_row names n d)
+pub pool_fails : (names : List (List ℕ)) (n : ℕ) (d : Data) (e : Refusal) → some_if (has_only names d) ≡ Some tt → Fails e (pool_of d) → Fails e (own_row names n d)
 pool_fails names n d e only =
     Fails-weaker e (pool_of d) _ (λ none. behind_only names n d only ∙ none_then (own_of d) (λ o. pool_of d >>= λ x. Some (raw_of n o x)) (λ o. ap (λ q. q >>= λ x. Some (raw_of n o x)) none))
 
@@ -114,7 +114,7 @@ first_fails e a b = Fails-weaker e a _ (λ none. ap (λ o. both_read o b) none)
 pub second_fails : {X Y : Type 0} (e : Refusal) (a : Option X) (b : Option Y) → Fails e b → Fails e (both_read a b)
 second_fails e a b = Fails-weaker e b _ (λ none. none_then a (λ x. b >>= λ y. Some (x, y)) (λ x. ap (λ o. o >>= λ y. Some (x, y)) none))
 
-pub row_read : (names : List (List ℕ)) (n : ℕ) (d : Data) (o : Own) (pool : List Marked) → provided (has_only names d) ≡ Some tt → own_of d ≡ Some o → pool_of d ≡ Some pool → own_row names n d ≡ Some (raw_of n o pool)
+pub row_read : (names : List (List ℕ)) (n : ℕ) (d : Data) (o : Own) (pool : List MarkedResource) → some_if (has_only names d) ≡ Some tt → own_of d ≡ Some o → pool_of d ≡ Some pool → own_row names n d ≡ Some (raw_of n o pool)
 row_read names n d o pool only own read =
     behind_only names n d only ∙ ap (λ q. q >>= λ v. pool_of d >>= λ x. Some (raw_of n v x)) own ∙ ap (λ q. q >>= λ x. Some (raw_of n o x)) read
 

@@ -6,8 +6,8 @@ use Rattle.serde_json.specs.Data.{Data}
 use Rattle.ticket_items.specs.Names.{is_name}
 use Rattle.ticket_items.specs.declared.node_row.NodeRow.{NodeRow}
 use Rattle.ticket_items.specs.declared.refusal.Refusal.{Refusal}
-use Rattle.json_items.specs.Judged.{Finds, first_fault, on_both}
-use Rattle.json_items.specs.TicketDraft.{RawRow, RawTicket, are_bare, node_rows, raw_ticket, root_members, ticket_draft}
+use Rattle.json_items.specs.Validation.{Finds, first_fault, on_both}
+use Rattle.json_items.specs.TicketDraft.{RawRow, RawTicket, are_bare, node_rows, raw_ticket, root_members, ticket_form}
 use Rattle.json_items.specs.TicketForm.{has_names, has_texts, row_has_names, row_has_texts}
 use Rattle.json_source.specs.Read.{◌>>=◌, text_under}
 use Rattle.json_reader.proofs.Findings.{found_made}
@@ -30,16 +30,16 @@ ticket_found name raws bare post r t shows makes is h =
 
 -- ---- from JSON data
 
-pub no_job : (d : Data) → text_under (codes "JobID") d ≡ None → ticket_draft d ≡ None
-unfolding ticket_draft
+pub no_job : (d : Data) → text_under (codes "JobID") d ≡ None → ticket_form d ≡ None
+unfolding ticket_form
 no_job d none = ap (λ o. o >>= λ job. node_rows root_members 1 d >>= λ rows. Some (raw_ticket job rows)) none
 
-pub no_rows : (d : Data) (job : List ℕ) → text_under (codes "JobID") d ≡ Some job → node_rows root_members 1 d ≡ None → ticket_draft d ≡ None
-unfolding ticket_draft
+pub no_rows : (d : Data) (job : List ℕ) → text_under (codes "JobID") d ≡ Some job → node_rows root_members 1 d ≡ None → ticket_form d ≡ None
+unfolding ticket_form
 no_rows d job named none =
     ap (λ o. o >>= λ x. node_rows root_members 1 d >>= λ rows. Some (raw_ticket x rows)) named ∙ ap (λ o. o >>= λ rows. Some (raw_ticket job rows)) none
 
-pub ticket_read : (d : Data) (job : List ℕ) (raws : List RawRow) → text_under (codes "JobID") d ≡ Some job → node_rows root_members 1 d ≡ Some raws → ticket_draft d ≡ Some (raw_ticket job raws)
-unfolding ticket_draft
+pub ticket_read : (d : Data) (job : List ℕ) (raws : List RawRow) → text_under (codes "JobID") d ≡ Some job → node_rows root_members 1 d ≡ Some raws → ticket_form d ≡ Some (raw_ticket job raws)
+unfolding ticket_form
 ticket_read d job raws named read =
     ap (λ o. o >>= λ x. node_rows root_members 1 d >>= λ rows. Some (raw_ticket x rows)) named ∙ ap (λ o. o >>= λ rows. Some (raw_ticket job rows)) read

@@ -10,7 +10,7 @@ ghost use Rattle.json_reader.specs.Gathered.{Gathers, rows_under};
 
 use crate::found_pool::show_nothing;
 use crate::found_row::own_row;
-use json_items::{Judged, push_found};
+use json_items::{Validation, push_found};
 use json_source::Source;
 use std::alloc::Global;
 use ticket_tree::{Items, NodeRow, Refusal};
@@ -39,13 +39,13 @@ const DEEPEST_READ: u32 = 33;
 /// stands in them, and whether their resources show nothing of spawns.
 #[derive(Drop)]
 pub struct FoundNodes {
-    pub rows: Judged<Items<NodeRow>>,
+    pub rows: Validation<Items<NodeRow>>,
     pub bare: bool,
 }
 
 impl FoundNodes {
     ghost use Rattle.std.specs.Prelude.{◌≡◌, List, [], ◌∷◌, ◌++◌, Some, IfErr, OnOk};
-    ghost use Rattle.json_items.specs.Judged.{Finds, first_fault};
+    ghost use Rattle.json_items.specs.Validation.{Finds, first_fault};
     ghost use Rattle.json_items.specs.TicketDraft.{RawRow, are_bare};
     ghost use Rattle.json_items.specs.TicketForm.{row_has_names, row_has_texts};
     ghost use Rattle.json_reader.specs.Found.{IsFound};
@@ -62,7 +62,7 @@ impl FoundNodes {
 
     /// Adds what is found of a node, and whether its resources show nothing. Refuses `Memory`
     /// alone.
-    pub fn push(&mut self, row: Judged<NodeRow>, bare: bool) -> Result<(), Refusal>
+    pub fn push(&mut self, row: Validation<NodeRow>, bare: bool) -> Result<(), Refusal>
         ensures ok { OnOk result ((before : List RawRow) (raw : RawRow) → IsFound before self.old
             → Finds (first_fault row_has_names row_has_texts) row (Some raw.row)
             → bare ≡ are_bare raw.pool → IsFound (before ++ raw ∷ []) self.new) }

@@ -4,12 +4,12 @@ ghost use Rattle.std.specs.Prelude.{◌≡◌, map, option_and_then};
 ghost use Rattle.std.specs.List.{list_all};
 ghost use Rattle.serde_json.specs.Find.{get};
 ghost use Rattle.serde_json.specs.View.{items_of};
-ghost use Rattle.json_items.specs.Listed.{each, list_form, pool_draft};
-ghost use Rattle.json_items.specs.Resources.{resource_draft};
+ghost use Rattle.json_items.specs.Listed.{items_read, list_form, pool_form};
+ghost use Rattle.json_items.specs.Resources.{resource_form};
 ghost use Rattle.json_items.specs.Shown as marks;
 ghost use Rattle.json_reader.specs.Found.{FindsAs, IsMarked, IsPool};
 
-use json_items::{Form, Judged, Shown, only, push_found};
+use json_items::{Form, Showing, Validation, check_members, push_found};
 use json_source::Source;
 use std::alloc::Global;
 use ticket_tree::{Items, Refusal, Resource};
@@ -30,31 +30,35 @@ const RESOURCE_MEMBERS: &[&str] = &[
 /// them, and what each of them shows of spawns, which is known also where they aren't valid.
 #[derive(Drop)]
 pub struct FoundPool {
-    pub resources: Judged<Items<Resource>>,
-    pub shown: Items<Shown>,
+    pub resources: Validation<Items<Resource>>,
+    pub shown: Items<Showing>,
 }
 
 /// Whether all show nothing of spawns.
-pub fn show_nothing(shown: &[Shown]) -> bool
+pub fn show_nothing(shown: &[Showing]) -> bool
     ensures { result ≡ list_all marks.shows_nothing shown.now }
 {
     shown.iter().all(|one| one.shows_nothing())
 }
 
 /// What is found of a resource, and what it shows of spawns. Refuses `NotProfile`, and `Memory`.
-#[tactic(auto, unfolding(json_items::specs::Resources::resource_draft))]
-fn find_marked<S: Source>(alloc: Global, value: &S) -> Result<(Judged<Resource>, Shown), Refusal>
-    ensures { FindsAs IsMarked result (resource_draft (S.content value.now)) }
+#[tactic(auto, unfolding(json_items::specs::Resources::resource_form))]
+fn find_marked<S: Source>(
+    alloc: Global,
+    value: &S,
+) -> Result<(Validation<Resource>, Showing), Refusal>
+    ensures { FindsAs IsMarked result (resource_form (S.content value.now)) }
 {
-    only(value, RESOURCE_MEMBERS)?;
+    check_members(value, RESOURCE_MEMBERS)?;
     let resource = Resource::find(alloc, value)?;
-    let shown = Shown::find(alloc, value)??;
+    let shown = Showing::find(alloc, value)??;
     Ok((resource, shown))
 }
 
 /// What is found of resources. Refuses `NotProfile`, and `Memory`.
 fn find_items<S: Source>(alloc: Global, items: &[S]) -> Result<FoundPool, Refusal>
-    ensures { FindsAs IsPool result (each resource_draft (items_of (map S.content items.now))) }
+    ensures { FindsAs IsPool result (items_read resource_form (items_of
+        (map S.content items.now))) }
 {
     let mut resources = Ok(Items::new(Vec::with_capacity(alloc, items.len())?));
     let mut shown = Vec::with_capacity(alloc, items.len())?;
@@ -69,7 +73,7 @@ fn find_items<S: Source>(alloc: Global, items: &[S]) -> Result<FoundPool, Refusa
 
 /// What is found of a list of resources. Refuses `NotProfile`, and `Memory`.
 fn find_list<S: Source>(alloc: Global, value: &S) -> Result<FoundPool, Refusal>
-    ensures { FindsAs IsPool result (list_form resource_draft (S.content value.now)) }
+    ensures { FindsAs IsPool result (list_form resource_form (S.content value.now)) }
 {
     let items = value.items().ok_or(Refusal::NotProfile)?;
     find_items(alloc, items)
@@ -83,7 +87,7 @@ impl FoundPool {
         // their names aren't valid.
         // By `FoundPool::find_under`, `FoundPool::is_bare`.
         ensures { FindsAs IsPool result
-            (pool_draft resource_draft (get name.now (S.content value.now))) }
+            (pool_form resource_form (get name.now (S.content value.now))) }
     {
         match value.member(name) {
             Some(pool) => find_list(alloc, pool),
@@ -95,7 +99,7 @@ impl FoundPool {
     /// `Memory`.
     pub fn find_under<S: Source>(alloc: Global, value: &S, name: &str) -> Result<FoundPool, Refusal>
         ensures { FindsAs IsPool result
-            (option_and_then (list_form resource_draft) (get name.now (S.content value.now))) }
+            (option_and_then (list_form resource_form) (get name.now (S.content value.now))) }
     {
         let pool = value.member(name).ok_or(Refusal::NotProfile)?;
         find_list(alloc, pool)

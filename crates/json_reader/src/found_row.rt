@@ -5,7 +5,7 @@ ghost use Rattle.json_items.specs.TicketDraft as form;
 ghost use Rattle.json_reader.specs.Found.{FindsAs, IsRow};
 
 use crate::found_pool::FoundPool;
-use json_items::{Judged, Shown, both, find_attrs, find_four, find_pool, only};
+use json_items::{Showing, Validation, check_members, find_attrs, find_four, find_pool, zip};
 use json_source::Source;
 use std::alloc::Global;
 use ticket_tree::{Items, NodeRow, Refusal};
@@ -18,18 +18,18 @@ pub fn own_row<S: Source>(
     names: &[&str],
     depth: u32,
     value: &S,
-) -> Result<(Judged<NodeRow>, Items<Shown>), Refusal>
+) -> Result<(Validation<NodeRow>, Items<Showing>), Refusal>
     ensures { FindsAs IsRow result
         (form.own_row (map (λ n. n.now) names.now) depth (S.content value.now)) }
 {
-    only(value, names)?;
+    check_members(value, names)?;
     let texts = find_four(alloc, value, "ID", "Type", "JobPartID", "Status")?;
     let attrs = find_attrs(alloc, value)?;
     let links = find_pool(alloc, value, "ResourceLinkPool")?;
     let audits = find_pool(alloc, value, "AuditPool")?;
     let FoundPool { resources, shown } = FoundPool::find(alloc, value, "ResourcePool")?;
-    let own = both(both(texts, attrs), both(links, audits));
-    let row = both(own, resources).map(|((own, (links, audits)), resources)| {
+    let own = zip(zip(texts, attrs), zip(links, audits));
+    let row = zip(own, resources).map(|((own, (links, audits)), resources)| {
         let ((((id, kind), job_part), status), attrs) = own;
         NodeRow {
             id,

@@ -6,7 +6,7 @@ ghost use Rattle.json_items.specs.Shown as shown;
 ghost use Rattle.json_source.specs.Read.{Gives};
 ghost use Rattle.json_reader.specs.Groups as groups;
 
-use json_items::Shown;
+use json_items::Showing;
 use std::alloc::Global;
 use std::mem;
 use ticket_tree::{Items, NodeRow, Refusal, Resources};
@@ -20,21 +20,21 @@ pub struct GroupSizes {
 }
 
 /// How many resources in front show nothing of spawns.
-fn own_len(pool: &[Shown]) -> usize
+fn own_len(pool: &[Showing]) -> usize
     ensures { result ≡ prefix_len shown.shows_nothing pool.now }
 {
     pool.iter().take_while(|one| one.shows_nothing()).count()
 }
 
 /// How many resources in front show that they are copies to change, of the spawn of this text.
-fn change_len(pool: &[Shown], spawn: &str) -> usize
+fn change_len(pool: &[Showing], spawn: &str) -> usize
     ensures { result ≡ prefix_len (shown.shows_change spawn.now) pool.now }
 {
     pool.iter().take_while(|one| one.is_change(spawn)).count()
 }
 
 /// Whether all show that they are copies to read alone, of the spawn of this text.
-fn are_read(pool: &[Shown], spawn: &str) -> bool
+fn are_read(pool: &[Showing], spawn: &str) -> bool
     ensures { result ≡ list_all (shown.shows_read spawn.now) pool.now }
 {
     pool.iter().all(|one| one.is_read(spawn))
@@ -42,7 +42,7 @@ fn are_read(pool: &[Shown], spawn: &str) -> bool
 
 /// How many resources of a part's root stand in each group, by what they show. Refuses `NotProfile`
 /// where they don't stand in their groups.
-pub fn group_sizes(pool: &[Shown], spawn: &str) -> Result<GroupSizes, Refusal>
+pub fn group_sizes(pool: &[Showing], spawn: &str) -> Result<GroupSizes, Refusal>
     ensures read { Gives (λ s. s) result (groups.group_sizes spawn.now pool.now) }
     ensures refused { IfErr result (λ e. e ≡ Refusal.NotProfile) }
 {

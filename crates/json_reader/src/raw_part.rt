@@ -1,10 +1,10 @@
 ghost use Rattle.json_reader.specs.Found.{FindsAs, IsTaken};
-ghost use Rattle.json_reader.specs.Groups.{taken_draft};
+ghost use Rattle.json_reader.specs.Groups.{taken_form};
 
 use crate::found_nodes::{FoundNodes, PART_MEMBERS, find_below};
 use crate::found_row::own_row;
 use crate::part_groups::{GroupSizes, group_sizes, take_copies};
-use json_items::{Form, Judged, Raw, both, find_three, text_under};
+use json_items::{Form, Raw, Validation, find_three, text_under, zip};
 use json_source::Source;
 use std::alloc::Global;
 use std::marker::Model;
@@ -49,8 +49,8 @@ impl RawPart {
 fn find_rows<S: Source>(
     alloc: Global,
     value: &S,
-) -> Result<(Judged<Items<NodeRow>>, GroupSizes), Refusal>
-    ensures { FindsAs IsTaken result (taken_draft (S.content value.now)) }
+) -> Result<(Validation<Items<NodeRow>>, GroupSizes), Refusal>
+    ensures { FindsAs IsTaken result (taken_form (S.content value.now)) }
 {
     let spawn = text_under(value, "SpawnID").ok_or(Refusal::NotProfile)?;
     let (root, shown) = own_row(alloc, PART_MEMBERS, 1, value)?;
@@ -67,20 +67,20 @@ fn find_rows<S: Source>(
 }
 
 impl Form for RawPart {
-    ghost use Rattle.json_items.specs.PartDraft.{part_draft};
+    ghost use Rattle.json_items.specs.PartDraft.{part_form};
     ghost use Rattle.json_items.specs.PartForm as form;
 
-    ghost form = { part_draft };
+    ghost form = { part_form };
 
     ghost has_names = { form.has_names };
 
     ghost has_texts = { form.has_texts };
 
     // Proved: A part is found as its form says.
-    fn find<S: Source>(alloc: Global, value: &S) -> Result<Judged<RawPart>, Refusal> {
+    fn find<S: Source>(alloc: Global, value: &S) -> Result<Validation<RawPart>, Refusal> {
         let outer = find_three(alloc, value, "JobID", "SpawnID", "AncestorPool")?;
         let (rows, sizes) = find_rows(alloc, value)?;
-        Ok(both(outer, rows).map(|(((job, spawn), ancestors), rows)| RawPart {
+        Ok(zip(outer, rows).map(|(((job, spawn), ancestors), rows)| RawPart {
             job,
             spawn,
             ancestors,
@@ -97,7 +97,7 @@ impl Raw for RawPart {
 
     ghost late_fault = { form.built_fault };
 
-    ghost made = { form.copied };
+    ghost made = { form.part_of_raw };
 
     /// Refuses the first of `ReservedStatus`, `DuplicateId`, `TooDeep` and `UnresolvedLink` that
     /// stands in it, with the copies as resources of the root; `Memory` may come before any.

@@ -1,6 +1,6 @@
 use crate::found_nodes::{FoundNodes, PART_MEMBERS, find_node};
 use crate::taken_nodes::take_node;
-use json_items::{Form, Judged, Raw, both, find_under};
+use json_items::{Form, Raw, Validation, find_under, zip};
 use json_source::{Source, Tree};
 use std::alloc::Global;
 use std::marker::Model;
@@ -24,43 +24,43 @@ impl Model for RawTicket {
 }
 
 impl RawTicket {
-    ghost use Rattle.json_items.specs.Judged.{Reads};
-    ghost use Rattle.json_items.specs.TicketDraft.{ticket_draft};
+    ghost use Rattle.json_items.specs.Validation.{Reads};
+    ghost use Rattle.json_items.specs.TicketDraft.{ticket_form};
     ghost use Rattle.json_items.specs.TicketForm as form;
     ghost use Rattle.json_source.specs.Tree.{tree_data};
 
     /// What is found of the ticket that a tree is, each node's part of which is given back as soon
     /// as all is found of it. Refuses `NotProfile`, and `Memory`.
-    pub fn of(alloc: Global, tree: Tree<'_>) -> Result<Judged<RawTicket>, Refusal>
+    pub fn of(alloc: Global, tree: Tree<'_>) -> Result<Validation<RawTicket>, Refusal>
         // Proved: A ticket is found as its form says, also of a tree that is given back on the
         // way.
         // By `RawTicket::find`.
-        ensures { Reads form.has_names form.has_texts result (ticket_draft (tree_data tree.entry)) }
+        ensures { Reads form.has_names form.has_texts result (ticket_form (tree_data tree.entry)) }
     {
         let job = find_under(alloc, &tree, "JobID")?;
         let mut found = FoundNodes::new(alloc);
         take_node(alloc, &mut found, &PART_MEMBERS[2..], 1, tree)?;
         let FoundNodes { rows, bare } = found;
-        Ok(both(job, rows).map(|(job, rows)| RawTicket { job, rows, bare }))
+        Ok(zip(job, rows).map(|(job, rows)| RawTicket { job, rows, bare }))
     }
 }
 
 impl Form for RawTicket {
-    ghost use Rattle.json_items.specs.TicketDraft.{ticket_draft};
+    ghost use Rattle.json_items.specs.TicketDraft.{ticket_form};
     ghost use Rattle.json_items.specs.TicketForm as form;
 
-    ghost form = { ticket_draft };
+    ghost form = { ticket_form };
 
     ghost has_names = { form.has_names };
 
     ghost has_texts = { form.has_texts };
 
-    fn find<S: Source>(alloc: Global, value: &S) -> Result<Judged<RawTicket>, Refusal> {
+    fn find<S: Source>(alloc: Global, value: &S) -> Result<Validation<RawTicket>, Refusal> {
         let job = find_under(alloc, value, "JobID")?;
         let mut found = FoundNodes::new(alloc);
         find_node(alloc, &mut found, &PART_MEMBERS[2..], 1, value)?;
         let FoundNodes { rows, bare } = found;
-        Ok(both(job, rows).map(|(job, rows)| RawTicket { job, rows, bare }))
+        Ok(zip(job, rows).map(|(job, rows)| RawTicket { job, rows, bare }))
     }
 }
 

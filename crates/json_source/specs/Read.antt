@@ -18,9 +18,9 @@ None >>= f = None
 (Some x) >>= f = f x
 
 -- nothing, where the test fails
-abbrev pub provided : Bool → Option ⊤
-provided true = Some tt
-provided false = None
+abbrev pub some_if : Bool → Option ⊤
+some_if true = Some tt
+some_if false = None
 
 -- ---- members
 
@@ -51,12 +51,12 @@ text_pairs no_members = Some []
 text_pairs (member k d ms) = as_str d >>= λ s. option_map (λ ps. (k, s) ∷ ps) (text_pairs ms)
 
 -- an object of texts
-abbrev pub attrs_draft : Data → Option Pairs
-attrs_draft d = option_and_then text_pairs (as_object d)
+abbrev pub attrs_form : Data → Option Pairs
+attrs_form d = option_and_then text_pairs (as_object d)
 
 -- an object of texts, empty where it is absent
 abbrev pub attrs_of : Option Data → Option Pairs
-attrs_of found = option_map_or attrs_draft found (Some [])
+attrs_of found = option_map_or attrs_form found (Some [])
 
 -- ---- what a reader answers
 

@@ -16,7 +16,7 @@ fn nearest(is_negative: bool, numeral: &Numeral<'_>) -> Option<Number>
 }
 
 /// The number of a numeral without a sign, where it is in range.
-fn unsigned(numeral: &Numeral<'_>) -> Option<Number>
+fn unsigned_number(numeral: &Numeral<'_>) -> Option<Number>
     ensures { option_map number_view result ≡ number_from false numeral.now }
 {
     match numeral.to_u64() {
@@ -52,6 +52,6 @@ pub fn number_in(text: &str) -> Option<Number>
     if has_minus(bytes) {
         negative(&Numeral::scan(&bytes[1..]))
     } else {
-        unsigned(&Numeral::scan(bytes))
+        unsigned_number(&Numeral::scan(bytes))
     }
 }

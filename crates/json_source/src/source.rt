@@ -5,7 +5,7 @@ ghost use Rattle.serde_json.specs.Find.{as_array, as_bool, as_str, get};
 ghost use Rattle.serde_json.specs.View.{items_of};
 ghost use Rattle.ticket_items.specs.Attrs.{IsInOrder};
 ghost use Rattle.json_source.specs.Read as read;
-ghost use Rattle.json_source.specs.Read.{Gives, attrs_draft, lent_pairs};
+ghost use Rattle.json_source.specs.Read.{Gives, attrs_form, lent_pairs};
 
 use std::alloc::Global;
 use ticket_items::Refusal;
@@ -49,6 +49,6 @@ pub trait Source: Drop {
     /// where it is no object of texts, and `Memory`.
     fn texts(&self, alloc: Global) -> Result<Vec<(&str, &str)>, Refusal>
         ensures texts { Gives (λ pairs. lent_pairs pairs.items) result
-            (attrs_draft (content self.now)) }
+            (attrs_form (content self.now)) }
         ensures order { IfOk result (λ pairs. IsInOrder (lent_pairs pairs.items)) };
 }

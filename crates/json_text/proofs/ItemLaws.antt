@@ -10,7 +10,7 @@ use Rattle.serde_json.specs.Data.{Data, array}
 use Rattle.ticket_items.specs.declared.resource.Resource.{Resource}
 use Rattle.json_items.specs.Listed.{data_items}
 use Rattle.json_items.specs.Resources.{all_showing, raw_data}
-use Rattle.json_items.specs.declared.resources.shown_form.Shown.{Shown}
+use Rattle.json_items.specs.declared.resources.shown_form.Showing.{Showing}
 use Rattle.json_text.specs.Printed.{data_tokens, IsAppended, IsReadAgain, IsPrinted, AreItemsPrinted}
 use Rattle.json_text.proofs.MemberLaws.{on_ok, appended_more}
 use Rattle.json_text.proofs.PrintedLists.{IsSoFar, one_more, all_printed, list_printed}
@@ -41,5 +41,5 @@ under_name name written xs r old named begun mid new first begins before printed
     on_ok r (list_printed written xs r named begun mid new begins before printed ends) (λ list. appended_more (key name ∷ []) (data_tokens (array (data_items written xs))) old named new first list.appended)
 
 -- resources that all show the same
-pub showing_as : (s t : Shown) (xs ys : List Resource) (old new : Written) → s ≡ t → xs ≡ ys → AreItemsPrinted raw_data (all_showing s xs) old new → AreItemsPrinted raw_data (all_showing t ys) old new
+pub showing_as : (s t : Showing) (xs ys : List Resource) (old new : Written) → s ≡ t → xs ≡ ys → AreItemsPrinted raw_data (all_showing s xs) old new → AreItemsPrinted raw_data (all_showing t ys) old new
 showing_as s t xs ys old new shown same printed = subst (λ zs. AreItemsPrinted raw_data (all_showing t zs) old new) same (subst (λ u. AreItemsPrinted raw_data (all_showing u xs) old new) shown printed)

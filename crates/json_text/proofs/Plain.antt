@@ -10,12 +10,12 @@ use Rattle.ticket_items.specs.declared.audit.Audit.TheVariants.{Notification, Sp
 use Rattle.ticket_items.specs.declared.link.Link.{Link}
 use Rattle.ticket_items.specs.declared.resource.Resource.{Resource}
 use Rattle.json_items.specs.Listed.{data_items}
-use Rattle.json_items.specs.Resources.{Marked}
+use Rattle.json_items.specs.Resources.{MarkedResource}
 use Rattle.json_items.specs.Attributes.{attr_members}
 use Rattle.json_items.specs.Resources.{resource_data, raw_data}
 use Rattle.json_items.specs.Links.{link_data}
 use Rattle.json_items.specs.Audits.{audit_data}
-use Rattle.json_items.specs.declared.resources.shown_form.Shown.{Shown}
+use Rattle.json_items.specs.declared.resources.shown_form.Showing.{Showing}
 use Rattle.json_text.specs.PartWritten.{ancestor_data}
 use Rattle.json_text.specs.Written.{pool_data}
 
@@ -30,7 +30,7 @@ items_plain form plain (x ∷ xs) = or_from _ _ (plain x) (items_plain form plai
 pub texts_plain : (texts : List (List ℕ)) → items_have_float (data_items string texts) ≡ false
 texts_plain texts = items_plain string (λ s. refl) texts
 
-pub resource_plain : (shown : Shown) (r : Resource) → has_float (resource_data shown r) ≡ false
+pub resource_plain : (shown : Showing) (r : Resource) → has_float (resource_data shown r) ≡ false
 resource_plain shown r = or_from _ _ (attrs_plain r.attrs) (ap (λ b. b || false) (texts_plain shown.spawn_ids))
 
 pub link_plain : (l : Link) → has_float (link_data l) ≡ false
@@ -41,7 +41,7 @@ audit_plain (Notification time text) = refl
 audit_plain (Spawned time jref spawn_id ro changed status) = or_from _ _ (texts_plain ro) (ap (λ b. b || false) (texts_plain changed))
 audit_plain (Merged time jref merge_id overwritten) = ap (λ b. b || false) (texts_plain overwritten)
 
-pub pool_plain : (raws : List Marked) → items_have_float (pool_data raws) ≡ false
+pub pool_plain : (raws : List MarkedResource) → items_have_float (pool_data raws) ≡ false
 pool_plain raws = items_plain raw_data (λ r. resource_plain r.shown r.resource) raws
 
 pub ancestors_plain : (ancestors : List Ancestor) → items_have_float (data_items ancestor_data ancestors) ≡ false

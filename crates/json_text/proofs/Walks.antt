@@ -15,7 +15,7 @@ use Rattle.ticket_rows.specs.Outline.{goes_on, is_outline}
 use Rattle.ticket_rows.specs.Ticket.{depths}
 use Rattle.json_items.specs.TicketForm.{row_has_names, row_has_texts}
 use Rattle.json_text.specs.TicketText.{is_front_deeper, shown_trees, shown_children, shown_node, IsDeeperAt, IsBehindDeeper}
-use Rattle.json_text.specs.Written.{Tree, children, others, has_deeper_front}
+use Rattle.json_text.specs.Written.{Tree, children, has_deeper_front, trees_behind}
 use Rattle.json_text.specs.Nodes.{IsWalked}
 use Rattle.json_text.specs.Printed.{data_tokens, IsAppended, IsPrinted, IsReadAgain}
 use Rattle.json_text.proofs.MemberLaws.{appended_more}
@@ -23,9 +23,9 @@ use Rattle.json_text.proofs.MemberLaws.{appended_more}
 -- ---- trees
 
 -- no tree in front stands deeper
-none_deeper : (depth : ℕ) (ts : List Tree) → has_deeper_front depth ts ≡ false → (children depth ts ≡ no_items) × (others depth ts ≡ ts)
+none_deeper : (depth : ℕ) (ts : List Tree) → has_deeper_front depth ts ≡ false → (children depth ts ≡ no_items) × (trees_behind depth ts ≡ ts)
 none_deeper depth [] h = (refl, refl)
-none_deeper depth (t ∷ ts) h = (ap (λ b. cond b (item t.value (children depth ts)) no_items) h, ap (λ b. cond b (others depth ts) (t ∷ ts)) h)
+none_deeper depth (t ∷ ts) h = (ap (λ b. cond b (item t.value (children depth ts)) no_items) h, ap (λ b. cond b (trees_behind depth ts) (t ∷ ts)) h)
 
 front_tree : (marks : Marks) (depth : ℕ) (rows : List NodeRow) → has_deeper_front depth (shown_trees marks rows) ≡ is_front_deeper depth rows
 front_tree marks depth [] = refl
@@ -33,14 +33,14 @@ front_tree marks depth (r ∷ rows) = refl
 
 -- a row that stands deeper, and the rows behind it that are none of its children
 shown_more : (marks : Marks) (depth : ℕ) (rows : List NodeRow) (at end : ℕ) (row : NodeRow) → IsDeeperAt depth rows at row → IsBehindDeeper marks row.depth rows (at + 1) end
-    → (shown_children marks depth (drop at rows) ≡ item (shown_node marks row (drop (at + 1) rows)) (shown_children marks depth (drop end rows))) × (others depth (shown_trees marks (drop at rows)) ≡ others depth (shown_trees marks (drop end rows)))
+    → (shown_children marks depth (drop at rows) ≡ item (shown_node marks row (drop (at + 1) rows)) (shown_children marks depth (drop end rows))) × (trees_behind depth (shown_trees marks (drop at rows)) ≡ trees_behind depth (shown_trees marks (drop end rows)))
 shown_more marks depth rows at end row here behind =
     let rest = drop (at + 1) rows in
     let test : nat_lt depth row.depth ≡ true = lt-ltb depth row.depth here.deeper in
-    let later = others row.depth (shown_trees marks rest) in
+    let later = trees_behind row.depth (shown_trees marks rest) in
     let node = shown_node marks row rest in (
       ap (shown_children marks depth) here.is ∙ ap (λ b. cond b (item node (children depth later)) no_items) test ∙ ap (λ ts. item node (children depth ts)) (sym behind.trees),
-      ap (λ rs. others depth (shown_trees marks rs)) here.is ∙ ap (λ b. cond b (others depth later) (record { depth = row.depth; value = node } ∷ later)) test ∙ ap (others depth) (sym behind.trees),
+      ap (λ rs. trees_behind depth (shown_trees marks rs)) here.is ∙ ap (λ b. cond b (trees_behind depth later) (record { depth = row.depth; value = node } ∷ later)) test ∙ ap (trees_behind depth) (sym behind.trees),
     )
 
 -- ---- nodes one after another
@@ -54,7 +54,7 @@ pub record IsPrintedSoFar (marks : Marks) (depth : ℕ) (rows : List NodeRow) (f
   pub tokens : now.tokens ++ items_tokens (items_outline (shown_children marks depth (drop at rows))) ≡ start.tokens ++ (key (codes "JDF") ∷ data_tokens (array (shown_children marks depth (drop from rows))))
   pub before : now.before ≡ start.before
   pub again : AreItemsAgain (shown_children marks depth (drop at rows)) → AreItemsAgain (shown_children marks depth (drop from rows))
-  pub others : others depth (shown_trees marks (drop at rows)) ≡ others depth (shown_trees marks (drop from rows))
+  pub others : trees_behind depth (shown_trees marks (drop at rows)) ≡ trees_behind depth (shown_trees marks (drop from rows))
   pub names : list_all row_has_names (drop from rows) ≡ list_all row_has_names (drop at rows)
   pub texts : list_all row_has_texts (drop from rows) ≡ list_all row_has_texts (drop at rows)
   pub forward : from ≤ at
@@ -121,25 +121,25 @@ walked_all marks depth rows from at start now before stop =
 
 -- ---- all rows behind a root are below it
 
-twice_at : (deeper : Bool) (depth : ℕ) (t : Tree) (ts : List Tree) → nat_lt depth t.depth ≡ deeper → 1 ≤ depth → others 1 (others depth ts) ≡ others 1 ts → others 1 (cond deeper (others depth ts) (t ∷ ts)) ≡ others 1 (t ∷ ts)
+twice_at : (deeper : Bool) (depth : ℕ) (t : Tree) (ts : List Tree) → nat_lt depth t.depth ≡ deeper → 1 ≤ depth → trees_behind 1 (trees_behind depth ts) ≡ trees_behind 1 ts → trees_behind 1 (cond deeper (trees_behind depth ts) (t ∷ ts)) ≡ trees_behind 1 (t ∷ ts)
 twice_at true depth t ts e low go =
     let deep : 1 < t.depth = omega (arith, ltb-true depth t.depth e) in
-    go ∙ ap (λ b. cond b (others 1 ts) (t ∷ ts)) (sym (lt-ltb 1 t.depth deep))
+    go ∙ ap (λ b. cond b (trees_behind 1 ts) (t ∷ ts)) (sym (lt-ltb 1 t.depth deep))
 twice_at false depth t ts e low go = refl
 
 -- what stands no deeper than a root is the same behind those that stand deeper than a node
-others_twice : (depth : ℕ) (ts : List Tree) → 1 ≤ depth → others 1 (others depth ts) ≡ others 1 ts
+others_twice : (depth : ℕ) (ts : List Tree) → 1 ≤ depth → trees_behind 1 (trees_behind depth ts) ≡ trees_behind 1 ts
 others_twice depth [] low = refl
 others_twice depth (t ∷ ts) low = twice_at (nat_lt depth t.depth) depth t ts refl low (others_twice depth ts low)
 
-no_others : (marks : Marks) (above : ℕ) (rows : List NodeRow) → goes_on above (depths rows) ≡ true → others 1 (shown_trees marks rows) ≡ []
+no_others : (marks : Marks) (above : ℕ) (rows : List NodeRow) → goes_on above (depths rows) ≡ true → trees_behind 1 (shown_trees marks rows) ≡ []
 no_others marks above [] outline = refl
 no_others marks above (r ∷ rows) outline =
     let parts = and_parts _ _ outline in
     let bounds = and_parts _ _ parts.0 in
     let low : 2 ≤ r.depth = leb-true _ _ bounds.0 in
-    let later = others r.depth (shown_trees marks rows) in
-    ap (λ b. cond b (others 1 later) (record { depth = r.depth; value = shown_node marks r rows } ∷ later)) (lt-ltb 1 r.depth low) ∙ others_twice r.depth (shown_trees marks rows) (omega (arith, low)) ∙ no_others marks r.depth rows parts.1
+    let later = trees_behind r.depth (shown_trees marks rows) in
+    ap (λ b. cond b (trees_behind 1 later) (record { depth = r.depth; value = shown_node marks r rows } ∷ later)) (lt-ltb 1 r.depth low) ∙ others_twice r.depth (shown_trees marks rows) (omega (arith, low)) ∙ no_others marks r.depth rows parts.1
 
 no_rows : (marks : Marks) (rows : List NodeRow) → shown_trees marks rows ≡ [] → rows ≡ []
 no_rows marks [] e = refl
@@ -150,7 +150,7 @@ walked_past : (marks : Marks) (rows : List NodeRow) (root : NodeRow) (end : ℕ)
 walked_past marks rows root end is outline walked =
     let parts = and_parts _ _ (ap (λ rs. is_outline (depths rs)) (sym is) ∙ outline) in
     let one : root.depth ≡ 1 = eqb-true _ _ parts.0 in
-    no_rows marks (drop end rows) (walked.behind.trees ∙ ap (λ d. others d (shown_trees marks (drop 1 rows))) one ∙ no_others marks 1 (drop 1 rows) parts.1)
+    no_rows marks (drop end rows) (walked.behind.trees ∙ ap (λ d. trees_behind d (shown_trees marks (drop 1 rows))) one ∙ no_others marks 1 (drop 1 rows) parts.1)
 
 pub first_row : (rows : List NodeRow) (root : NodeRow) → Some root ≡ slice_get rows 0 → rows ≡ root ∷ drop 1 rows
 first_row [] root found = cc

@@ -10,9 +10,9 @@ use Rattle.ticket_items.specs.declared.node_row.NodeRow.{NodeRow}
 use Rattle.ticket_items.specs.declared.res_mark.ResMark.{ResMark}
 use Rattle.ticket_items.specs.declared.resource.Resource.{Resource}
 use Rattle.json_items.specs.TicketDraft.{RawRow}
-use Rattle.json_items.specs.Resources.{Marked}
+use Rattle.json_items.specs.Resources.{MarkedResource}
 use Rattle.json_items.specs.Shown.{nothing_shown}
-use Rattle.json_items.specs.declared.resources.shown_form.Shown.{Shown}
+use Rattle.json_items.specs.declared.resources.shown_form.Showing.{Showing}
 
 -- the marks of a ticket of which nothing is out
 abbrev pub no_marks : Marks
@@ -27,16 +27,16 @@ abbrev pub mark_of : List ResMark → List ℕ → Option ResMark
 mark_of marks x = find (λ m. bytes_eq m.id x) marks
 
 -- what a mark shows: the original stays free to be changed
-abbrev pub shown_by : ResMark → Shown
-shown_by mark =
+abbrev pub showing_by : ResMark → Showing
+showing_by mark =
     record { locked = false; spawn_ids = map spawn_text mark.spawn_ids; spawn_status = mark.status }
 
 -- what a resource shows: what its mark does, and nothing without one
-abbrev pub shown_of : Marks → Resource → Shown
-shown_of marks r = option_map_or shown_by (mark_of marks.resources r.id) nothing_shown
+abbrev pub showing_of : Marks → Resource → Showing
+showing_of marks r = option_map_or showing_by (mark_of marks.resources r.id) nothing_shown
 
-abbrev pub marked_pool : Marks → List Resource → List Marked
-marked_pool marks rs = map (λ r. record { resource = r; shown = shown_of marks r }) rs
+abbrev pub marked_pool : Marks → List Resource → List MarkedResource
+marked_pool marks rs = map (λ r. record { resource = r; shown = showing_of marks r }) rs
 
 -- a node with the Status that it shows
 abbrev pub marked_node : Marks → NodeRow → NodeRow

@@ -2,7 +2,7 @@
 use Rattle.std.specs.Prelude.{ℕ, List, [], ◌∷◌, ◌++◌, codes}
 use Rattle.serde_json.specs.Data.{Data, Items, Members, no_members, member, null, string, array}
 use Rattle.serde_json.specs.Data.{object}
-use Rattle.ticket_tree.specs.Part.{Copied}
+use Rattle.ticket_tree.specs.Part.{PartCopy}
 use Rattle.ticket_items.specs.SpawnId.{spawn_text}
 use Rattle.ticket_items.specs.declared.ancestor.Ancestor.{Ancestor}
 use Rattle.ticket_items.specs.declared.node_row.NodeRow.{NodeRow}
@@ -10,7 +10,7 @@ use Rattle.ticket_items.specs.declared.resource.Resource.{Resource}
 use Rattle.json_items.specs.TicketDraft.{RawRow}
 use Rattle.json_items.specs.Listed.{data_items}
 use Rattle.json_items.specs.Shown.{shown_rw, shown_ro}
-use Rattle.json_items.specs.Resources.{Marked}
+use Rattle.json_items.specs.Resources.{MarkedResource}
 use Rattle.json_items.specs.Shown.{nothing_shown}
 use Rattle.json_items.specs.Resources.{all_showing}
 use Rattle.json_items.specs.Links.{link_data}
@@ -19,12 +19,12 @@ use Rattle.json_text.specs.Marked.{no_marks, marked_rows}
 use Rattle.json_text.specs.Written.{first_members, pool_data, children, trees}
 
 -- the copies in the pool of a part's root: those to change, then those to read
-abbrev pub copies_pool : List ℕ → List Resource → List Resource → List Marked
+abbrev pub copies_pool : List ℕ → List Resource → List Resource → List MarkedResource
 copies_pool spawn changes reads = all_showing (shown_rw spawn) changes
     ++ all_showing (shown_ro spawn) reads
 
 -- the pool of a part's root: its own resources, then the copies
-abbrev pub root_pool : List ℕ → List Resource → List Resource → List Resource → List Marked
+abbrev pub root_pool : List ℕ → List Resource → List Resource → List Resource → List MarkedResource
 root_pool spawn own changes reads = all_showing nothing_shown own ++ copies_pool spawn changes reads
 
 -- what stands behind the children of a part's root
@@ -60,5 +60,5 @@ rows_data job spawn ancestors (r ∷ rows) changes reads =
     (children r.depth (trees (marked_rows no_marks rows)))
 
 -- a part: its root with all below it. The other nodes' resources show nothing
-abbrev pub part_data : Copied → Data
+abbrev pub part_data : PartCopy → Data
 part_data p = rows_data p.job_id (spawn_text p.spawn_id) p.ancestors p.rows p.rw p.ro

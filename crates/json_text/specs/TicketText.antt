@@ -5,7 +5,8 @@ use Rattle.serde_json.specs.Data.{Data, Items, Members}
 use Rattle.ticket_items.specs.declared.marks.Marks.{Marks}
 use Rattle.ticket_items.specs.declared.node_row.NodeRow.{NodeRow}
 use Rattle.json_text.specs.Marked.{marked_node, marked_pool, marked_row, marked_rows}
-use Rattle.json_text.specs.Written.{Tree, children, last_members, node_data, others, pool_data}
+use Rattle.json_text.specs.Written.{Tree, children, last_members, node_data, pool_data}
+use Rattle.json_text.specs.Written.{trees_behind}
 use Rattle.json_text.specs.Written.{trees}
 
 -- whether the row in front stands deeper
@@ -38,5 +39,5 @@ pub record IsDeeperAt (depth : ℕ) (rows : List NodeRow) (at : ℕ) (row : Node
 -- the index is behind the rows from another on that stand deeper
 pub record IsBehindDeeper (marks : Marks) (depth : ℕ) (rows : List NodeRow) (from end : ℕ)
     : Type 0 where
-  pub trees : shown_trees marks (drop end rows) ≡ others depth (shown_trees marks (drop from rows))
+  pub trees : shown_trees marks (drop end rows) ≡ trees_behind depth (shown_trees marks (drop from rows))
   pub forward : from ≤ end

@@ -7,7 +7,7 @@ use Rattle.ticket_items.specs.declared.node_row.NodeRow.{NodeRow}
 use Rattle.ticket_items.specs.declared.marks.Marks.{Marks}
 use Rattle.json_items.specs.TicketDraft.{RawRow}
 use Rattle.json_items.specs.Listed.{data_items}
-use Rattle.json_items.specs.Resources.{Marked}
+use Rattle.json_items.specs.Resources.{MarkedResource}
 use Rattle.json_items.specs.Attributes.{attr_members}
 use Rattle.json_items.specs.Resources.{raw_data}
 use Rattle.json_items.specs.Links.{link_data}
@@ -18,7 +18,7 @@ pub use Rattle.json_items.specs.Edits.{edit_data}
 -- ---- nodes
 
 -- resources, each with what it shows of spawns
-abbrev pub pool_data : List Marked → Items
+abbrev pub pool_data : List MarkedResource → Items
 pool_data raws = data_items raw_data raws
 
 -- from a node's part in its job on: what stands behind its children. These are its resources.
@@ -69,14 +69,14 @@ children depth (t ∷ trees) =
     if nat_lt depth t.depth then item t.value (children depth trees) else no_items
 
 -- the trees from the first on that stands no deeper
-abbrev pub others : ℕ → List Tree → List Tree
-others depth [] = []
-others depth (t ∷ trees) = if nat_lt depth t.depth then others depth trees else t ∷ trees
+abbrev pub trees_behind : ℕ → List Tree → List Tree
+trees_behind depth [] = []
+trees_behind depth (t ∷ trees) = if nat_lt depth t.depth then trees_behind depth trees else t ∷ trees
 
 -- a row in front of trees: those that stand deeper are its children
 abbrev pub with_tree : RawRow → List Tree → List Tree
 with_tree r ts = record { depth = r.row.depth; value = node_data r (children r.row.depth ts) }
-    ∷ others r.row.depth ts
+    ∷ trees_behind r.row.depth ts
 
 -- the trees that rows in preorder are
 abbrev pub trees : List RawRow → List Tree

@@ -17,6 +17,6 @@ pub use marked::no_marks;
 pub use members::{print_items, print_member, print_text};
 pub use parts::print_part;
 pub use pools::print_showing;
-pub use printed::Printed;
-pub use text::finished;
+pub use printed::PrintForm;
+pub use text::written_text;
 pub use tickets::print_ticket;

@@ -6,13 +6,13 @@ ghost use Rattle.serde_json.specs.Data.{array};
 ghost use Rattle.json_items.specs.Listed.{data_items};
 ghost use Rattle.json_text.specs.Printed.{IsPrinted};
 
-use crate::printed::Printed;
+use crate::printed::PrintForm;
 use json::Writer;
 use std::alloc::AllocError;
 use ticket_items::Items;
 
 /// Prints a list. The names and texts of its items are valid.
-pub fn print_list<T: Printed>(out: &mut Writer, items: &[T]) -> Result<(), AllocError>
+pub fn print_list<T: PrintForm>(out: &mut Writer, items: &[T]) -> Result<(), AllocError>
     ensures printed { OnOk result
         (IsPrinted (array (data_items T.written items.now)) out.old out.new) }
     ensures names { OnOk result (list_all T.has_names items.now ≡ true) }
@@ -25,7 +25,7 @@ pub fn print_list<T: Printed>(out: &mut Writer, items: &[T]) -> Result<(), Alloc
     out.end_array()
 }
 
-impl<T: Printed> Printed for Items<T> {
+impl<T: PrintForm> PrintForm for Items<T> {
     ghost written = { λ items. array (data_items T.written items) };
 
     fn print(&self, out: &mut Writer) -> Result<(), AllocError> {

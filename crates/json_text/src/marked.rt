@@ -6,7 +6,7 @@ ghost use Rattle.ticket_items.specs.Names.{is_name};
 ghost use Rattle.ticket_items.specs.SpawnId.{spawn_text};
 ghost use Rattle.json_text.specs.Marked as marked;
 
-use json_items::{AnyText, Shown};
+use json_items::{AnyText, Showing};
 use std::alloc::{AllocError, Global};
 use ticket_items::is_among;
 use ticket_tree::{Id, Items, Marks, NodeRow, ResMark, Resource, SpawnId};
@@ -14,7 +14,7 @@ use ticket_tree::{Id, Items, Marks, NodeRow, ResMark, Resource, SpawnId};
 /// The marks of a ticket of which nothing is out.
 pub fn no_marks(alloc: Global) -> Marks
     // Proved: What a ticket shows is told by its marks.
-    // By `shown_of`; `shown_status`: `status`, `valid`.
+    // By `showing_of`; `shown_status`: `status`, `valid`.
     ensures { result ≡ marked.no_marks }
 {
     Marks {
@@ -59,13 +59,13 @@ fn spawn_texts(alloc: Global, spawns: &[SpawnId]) -> Result<Items<AnyText>, Allo
 }
 
 /// What a resource of a ticket with these marks shows.
-pub fn shown_of(alloc: Global, marks: &Marks, resource: &Resource) -> Result<Shown, AllocError>
-    ensures { IfOk result (λ shown. shown ≡ marked.shown_of marks.now resource.now) }
+pub fn showing_of(alloc: Global, marks: &Marks, resource: &Resource) -> Result<Showing, AllocError>
+    ensures { IfOk result (λ shown. shown ≡ marked.showing_of marks.now resource.now) }
 {
     let Some(mark) = mark_of(marks, &resource.id) else {
-        return Ok(Shown::nothing(alloc));
+        return Ok(Showing::nothing(alloc));
     };
-    Ok(Shown {
+    Ok(Showing {
         locked: false,
         spawn_ids: spawn_texts(alloc, mark.spawn_ids.as_slice())?,
         spawn_status: mark.status,

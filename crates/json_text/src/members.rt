@@ -8,12 +8,12 @@ ghost use Rattle.json_items.specs.Listed.{data_items};
 ghost use Rattle.json_text.specs.Printed.{data_tokens, IsAppended, IsReadAgain};
 
 use crate::lists::print_list;
-use crate::printed::Printed;
+use crate::printed::PrintForm;
 use json::Writer;
 use std::alloc::AllocError;
 
 /// Prints an item under a name. Its names and texts are valid.
-pub fn print_member<T: Printed>(out: &mut Writer, name: &str, item: &T) -> Result<(), AllocError>
+pub fn print_member<T: PrintForm>(out: &mut Writer, name: &str, item: &T) -> Result<(), AllocError>
     // Proved: The tokens of a member are appended, its name and then its data, which is read as
     // it; its ids, names and texts are valid.
     // By `printed`, `again`, `names`, `texts`; `print_items`, `print_showing`: `printed`, `again`,
@@ -38,7 +38,11 @@ pub fn print_text(out: &mut Writer, name: &str, text: &str) -> Result<(), AllocE
 }
 
 /// Prints a list of items under a name. Their names and texts are valid.
-pub fn print_items<T: Printed>(out: &mut Writer, name: &str, items: &[T]) -> Result<(), AllocError>
+pub fn print_items<T: PrintForm>(
+    out: &mut Writer,
+    name: &str,
+    items: &[T],
+) -> Result<(), AllocError>
     ensures printed { OnOk result (IsAppended
         (TokenSeen.key name.now ∷ data_tokens (array (data_items T.written items.now)))
         out.old out.new) }

@@ -14,9 +14,9 @@ ghost use Rattle.json_text.specs.Written.{pool_data};
 ghost use Rattle.json_text.specs.Printed.{data_tokens, AreItemsPrinted, IsAppended, IsReadAgain};
 
 use crate::items::resources::print_marked;
-use crate::marked::shown_of;
+use crate::marked::showing_of;
 use json::Writer;
-use json_items::Shown;
+use json_items::Showing;
 use std::alloc::{AllocError, Global};
 use ticket_tree::{Marks, Part, Resource};
 
@@ -40,7 +40,7 @@ pub fn print_pool(
     out.key("ResourcePool")?;
     out.begin_array()?;
     for resource in resources {
-        let shown = shown_of(alloc, marks, resource)?;
+        let shown = showing_of(alloc, marks, resource)?;
         print_marked(out, resource, &shown)?;
     }
     out.end_array()
@@ -48,7 +48,7 @@ pub fn print_pool(
 
 /// Prints resources that all show this of spawns, one after another. Their names and texts are
 /// valid.
-fn print_each(out: &mut Writer, resources: &[Resource], shown: &Shown) -> Result<(), AllocError>
+fn print_each(out: &mut Writer, resources: &[Resource], shown: &Showing) -> Result<(), AllocError>
     ensures printed { OnOk result
         (AreItemsPrinted raw_data (all_showing shown.now resources.now) out.old out.new) }
     ensures names { OnOk result (list_all resource_has_names resources.now ≡ true) }
@@ -82,9 +82,9 @@ pub fn print_root_pool(
 {
     out.key("ResourcePool")?;
     out.begin_array()?;
-    print_each(out, resources, &Shown::nothing(alloc))?;
-    print_each(out, part.rw(), &Shown::rw(alloc, spawn)?)?;
-    print_each(out, part.ro(), &Shown::ro(alloc, spawn)?)?;
+    print_each(out, resources, &Showing::nothing(alloc))?;
+    print_each(out, part.rw(), &Showing::rw(alloc, spawn)?)?;
+    print_each(out, part.ro(), &Showing::ro(alloc, spawn)?)?;
     out.end_array()
 }
 
@@ -94,7 +94,7 @@ pub fn print_showing(
     out: &mut Writer,
     name: &str,
     resources: &[Resource],
-    shown: &Shown,
+    shown: &Showing,
 ) -> Result<(), AllocError>
     ensures printed { OnOk result (IsAppended
         (TokenSeen.key name.now

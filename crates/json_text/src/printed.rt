@@ -7,7 +7,7 @@ use json_items::Form;
 use std::alloc::AllocError;
 
 /// A type that is printed token by token, with no value of it.
-pub trait Printed: Form {
+pub trait PrintForm: Form {
     /// The data that is printed.
     ghost written: { Self → Data };
 

@@ -10,7 +10,7 @@ ghost use Rattle.json_text.specs.Printed.{data_tokens, IsReadAgain};
 use json::Writer;
 
 /// The text of data that was printed, which is read as it, behind what stood before.
-pub fn finished(out: Writer) -> Vec<u8>
+pub fn written_text(out: Writer) -> Vec<u8>
     // Proved: The tokens of data are its compact text, which is read as it where nothing stood
     // before and the data nests no deeper than is read.
     // By `text`, `again`, `utf8`.

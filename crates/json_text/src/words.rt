@@ -4,13 +4,13 @@ ghost use Rattle.serde_json.specs.Data.{boolean, number, string, unsigned};
 ghost use Rattle.json_items.specs.Links as links;
 ghost use Rattle.json_items.specs.Shown as shown;
 
-use crate::printed::Printed;
+use crate::printed::PrintForm;
 use json::Writer;
 use json_items::AnyText;
 use std::alloc::AllocError;
 use ticket_items::{Id, Name, SpawnStatus, Text, Usage};
 
-impl Printed for Id {
+impl PrintForm for Id {
     ghost written = { string };
 
     fn print(&self, out: &mut Writer) -> Result<(), AllocError> {
@@ -18,7 +18,7 @@ impl Printed for Id {
     }
 }
 
-impl Printed for Name {
+impl PrintForm for Name {
     ghost written = { string };
 
     fn print(&self, out: &mut Writer) -> Result<(), AllocError> {
@@ -26,7 +26,7 @@ impl Printed for Name {
     }
 }
 
-impl Printed for Text {
+impl PrintForm for Text {
     ghost written = { string };
 
     fn print(&self, out: &mut Writer) -> Result<(), AllocError> {
@@ -34,7 +34,7 @@ impl Printed for Text {
     }
 }
 
-impl Printed for AnyText {
+impl PrintForm for AnyText {
     ghost written = { string };
 
     fn print(&self, out: &mut Writer) -> Result<(), AllocError> {
@@ -42,7 +42,7 @@ impl Printed for AnyText {
     }
 }
 
-impl Printed for u64 {
+impl PrintForm for u64 {
     ghost written = { λ n. number (unsigned n) };
 
     fn print(&self, out: &mut Writer) -> Result<(), AllocError> {
@@ -50,7 +50,7 @@ impl Printed for u64 {
     }
 }
 
-impl Printed for bool {
+impl PrintForm for bool {
     ghost written = { boolean };
 
     fn print(&self, out: &mut Writer) -> Result<(), AllocError> {
@@ -58,7 +58,7 @@ impl Printed for bool {
     }
 }
 
-impl Printed for SpawnStatus {
+impl PrintForm for SpawnStatus {
     ghost written = { shown.spawn_status_data };
 
     fn print(&self, out: &mut Writer) -> Result<(), AllocError> {
@@ -66,7 +66,7 @@ impl Printed for SpawnStatus {
     }
 }
 
-impl Printed for Usage {
+impl PrintForm for Usage {
     ghost written = { links.usage_data };
 
     fn print(&self, out: &mut Writer) -> Result<(), AllocError> {

@@ -6,7 +6,7 @@ use Rattle.std.specs.Global.{Vec}
 use Rattle.std.proofs.lemmas.Option.{slice_get_within}
 use Rattle.keepers.specs.Crash.{Elapses}
 use Rattle.keepers.specs.Disk.{IsOf, Links, Places, SyncsFolder}
-use Rattle.keepers.specs.InMemory.{InMemory, IsFrom, contents, drafts_of, placed_of, settled_of, view_of}
+use Rattle.keepers.specs.InMemory.{InMemory, IsFrom, contents, disk_after_rename, disk_after_sync, drafts_of, view_of}
 use Rattle.keepers.specs.declared.keep_fault.KeepFault.{KeepFault}
 
 abbrev Files : Type 0
@@ -62,7 +62,7 @@ behind_all d c at = ⊎_elim (λ (here : slice_get d.left at.0 ≡ Some c). absu
 abbrev IsCounted : InMemory → InMemory → Type 0
 IsCounted old new = new ≡ record old { count = new.count }
 
-pub places : (old new : InMemory) (is_free : Bool) (result : Result ⊤ KeepFault) → OnOk result (new ≡ placed_of is_free old) → OnErr result (IsCounted old new) → Places (view_of old) (view_of new) result
+pub places : (old new : InMemory) (is_free : Bool) (result : Result ⊤ KeepFault) → OnOk result (new ≡ disk_after_rename is_free old) → OnErr result (IsCounted old new) → Places (view_of old) (view_of new) result
 places old new is_free (Ok done) is same = subst (λ (d : InMemory). Places (view_of old) (view_of d) (Ok done)) (sym is) record {
   ok = (refl, refl);
   file = inr refl;
@@ -76,14 +76,14 @@ places old new is_free (Err fault) is same = subst (λ (d : InMemory). Places (v
   draft = record { draft = refl; crash = λ bytes holds. holds };
 }
 
-pub place_elapses : (old new : InMemory) (is_free : Bool) (result : Result ⊤ KeepFault) → OnOk result (new ≡ placed_of is_free old) → OnErr result (IsCounted old new) → old.settled ≤ length old.left → HasElapsed old new
+pub place_elapses : (old new : InMemory) (is_free : Bool) (result : Result ⊤ KeepFault) → OnOk result (new ≡ disk_after_rename is_free old) → OnErr result (IsCounted old new) → old.settled ≤ length old.left → HasElapsed old new
 place_elapses old new is_free (Ok done) is same bound = subst (HasElapsed old) (sym is) (grown old.left (drafts_of old) old.settled old.settled (omega arith) bound)
 place_elapses old new is_free (Err fault) is same bound = subst (HasElapsed old) (sym same) (stands old)
 
-pub links : (old new : InMemory) (is_free : Bool) (result : Result ⊤ KeepFault) → OnOk result (new ≡ placed_of is_free old) → OnErr result (IsCounted old new) → OnOk result (old.file ≡ None) → Links (view_of old) (view_of new) result
+pub links : (old new : InMemory) (is_free : Bool) (result : Result ⊤ KeepFault) → OnOk result (new ≡ disk_after_rename is_free old) → OnErr result (IsCounted old new) → OnOk result (old.file ≡ None) → Links (view_of old) (view_of new) result
 links old new is_free result is same none = record { places = places old new is_free result is same; none = none }
 
-pub settles : (old new : InMemory) (result : Result ⊤ KeepFault) → OnOk result (new ≡ settled_of old) → OnErr result (IsCounted old new) → old.is_placed ≡ true → SyncsFolder (view_of old) (view_of new) result
+pub settles : (old new : InMemory) (result : Result ⊤ KeepFault) → OnOk result (new ≡ disk_after_sync old) → OnErr result (IsCounted old new) → old.is_placed ≡ true → SyncsFolder (view_of old) (view_of new) result
 settles old new (Ok done) is same placed = subst (λ (d : InMemory). SyncsFolder (view_of old) (view_of d) (Ok done)) (sym is) record {
   file = refl;
   crash = λ c at. inr (placed, behind_all old c at);
@@ -91,7 +91,7 @@ settles old new (Ok done) is same placed = subst (λ (d : InMemory). SyncsFolder
 }
 settles old new (Err fault) is same placed = subst (λ (d : InMemory). SyncsFolder (view_of old) (view_of d) (Err fault)) (sym same) record { file = refl; crash = λ c at. inl at; durable = _ }
 
-pub settle_elapses : (old new : InMemory) (result : Result ⊤ KeepFault) → OnOk result (new ≡ settled_of old) → OnErr result (IsCounted old new) → old.settled ≤ length old.left → HasElapsed old new
+pub settle_elapses : (old new : InMemory) (result : Result ⊤ KeepFault) → OnOk result (new ≡ disk_after_sync old) → OnErr result (IsCounted old new) → old.settled ≤ length old.left → HasElapsed old new
 settle_elapses old new (Ok done) is same bound = subst (HasElapsed old) (sym is) (grown old.left (drafts_of old) old.settled (length old.left) bound (omega arith))
 settle_elapses old new (Err fault) is same bound = subst (HasElapsed old) (sym same) (stands old)
 

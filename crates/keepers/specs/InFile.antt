@@ -9,8 +9,8 @@ pub record InFile (D : Type 0) : Type 0 where
   pub is_new : Bool
 
 -- what a read of the file gives; nothing where there is none
-abbrev pub held_in : View → List ℕ
-held_in v = unwrap_or v.file []
+abbrev pub contents_of : View → List ℕ
+contents_of v = unwrap_or v.file []
 
 -- a call that fails: any may; the file's place is the same, and the number of failures rises
 pub record Fails {D : Type 0} (place : D → List ℕ) (count : D → ℕ) (old new : InFile D)

@@ -31,17 +31,17 @@ abbrev pub IsFrom : List (Option (List ℕ)) → ℕ → Option (List ℕ) → T
 IsFrom left n c = (i : ℕ) × (n ≤ i) × (slice_get left i ≡ Some c)
 
 -- what is from an index on is from an earlier one on
-pub later : (left : List (Option (List ℕ))) (m n : ℕ) (c : Option (List ℕ)) → m ≤ n
+pub later_front : (left : List (Option (List ℕ))) (m n : ℕ) (c : Option (List ℕ)) → m ≤ n
     → IsFrom left n c → IsFrom left m c
-later left m n c le at = (at.0, omega (arith, le, at.1), at.2)
+later_front left m n c le at = (at.0, omega (arith, le, at.1), at.2)
 
 -- what a crash leaves of a draft that was given the file's name
 abbrev pub drafts_of : InMemory → List (Option (List ℕ))
 drafts_of d = Some d.synced ∷ Some d.draft ∷ []
 
 -- the disk once the draft was given the file's name, in place of its own or beside it
-abbrev pub placed_of : Bool → InMemory → InMemory
-placed_of is_free d = record d {
+abbrev pub disk_after_rename : Bool → InMemory → InMemory
+disk_after_rename is_free d = record d {
   file = Some d.draft;
   left = d.left ++ drafts_of d;
   is_placed = true;
@@ -49,8 +49,8 @@ placed_of is_free d = record d {
 }
 
 -- the disk once the file's name, that its draft has, is settled
-abbrev pub settled_of : InMemory → InMemory
-settled_of d = record d { left = d.left ++ drafts_of d; settled = length d.left }
+abbrev pub disk_after_sync : InMemory → InMemory
+disk_after_sync d = record d { left = d.left ++ drafts_of d; settled = length d.left }
 
 -- an unsynced draft may be as it was at its last sync; an unsynced name may lead to the old file
 abbrev pub view_of : InMemory → View

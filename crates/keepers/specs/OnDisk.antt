@@ -9,8 +9,8 @@ pub record OnDisk : Type 0 where
   pub count : ℕ
 
 -- nothing is known of it, and nothing promised
-abbrev pub unknown : View
-unknown = record {
+abbrev pub no_view : View
+no_view = record {
   file = None;
   may_leave = λ c. ⊥;
   draft = [];
@@ -22,5 +22,5 @@ unknown = record {
 
 -- the keeper in the file of a path of which no call failed yet, and whether the first save makes
 -- the file
-abbrev pub kept_at : List ℕ → Bool → InFile OnDisk
-kept_at file is_new = record { disk = record { path = file; count = 0 }; is_new = is_new }
+abbrev pub keep_at : List ℕ → Bool → InFile OnDisk
+keep_at file is_new = record { disk = record { path = file; count = 0 }; is_new = is_new }

@@ -2,21 +2,21 @@
 -- honest.
 use Rattle.std.specs.Prelude.{ℕ, Bool, true, false, List, []}
 use Rattle.keepers.specs.InFile.{Fails, InFile}
-use Rattle.keepers.specs.OnDisk.{OnDisk, kept_at}
+use Rattle.keepers.specs.OnDisk.{OnDisk, keep_at}
 
 -- the keeper in a file that is there, and in one that the first save makes
-abbrev pub kept_in : List ℕ → InFile OnDisk
-kept_in file = kept_at file false
+abbrev pub keep_in_file : List ℕ → InFile OnDisk
+keep_in_file file = keep_at file false
 
-abbrev pub made_in : List ℕ → InFile OnDisk
-made_in file = kept_at file true
+abbrev pub keep_in_new_file : List ℕ → InFile OnDisk
+keep_in_new_file file = keep_at file true
 
 -- what is known of a file: it is no honest keeper, of bytes that nothing tells
 abbrev pub is_honest : InFile OnDisk → Bool
 is_honest keep = false
 
-abbrev pub held : InFile OnDisk → List ℕ
-held keep = []
+abbrev pub file_bytes : InFile OnDisk → List ℕ
+file_bytes keep = []
 
 -- its place, which is the path of the file, and how many of its calls failed
 abbrev pub place : InFile OnDisk → List ℕ

@@ -16,9 +16,9 @@ pub struct FailingKeep {
 
 impl Model for FailingKeep {
     ghost use Rattle.std.specs.Prelude.{◌≡◌, ◌<◌, ◌≤◌, ℕ, List};
-    ghost use Rattle.keepers.specs.Failing.{Failing};
+    ghost use Rattle.keepers.specs.Failing.{FailingView};
 
-    ghost Value = { Failing };
+    ghost Value = { FailingView };
 
     ghost view = { λ keep. record {
       held = keep.bytes.items;

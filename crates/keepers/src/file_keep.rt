@@ -40,7 +40,7 @@ impl<D: Disk> FileKeep<D> {
 
 impl<'a, R: Locks> FileKeep<SystemDisk<'a, R>> {
     ghost use Rattle.std.specs.Prelude.{◌≡◌, true, false, IfErr, IfOk, IfSome};
-    ghost use Rattle.keepers.specs.OnDisk.{kept_at};
+    ghost use Rattle.keepers.specs.OnDisk.{keep_at};
 
     /// Waits for the lock of the file of this path, and takes it; it is a keeper in that file, of
     /// which no call failed yet. The file is opened for writes as well as reads, as a lock over a
@@ -55,12 +55,12 @@ impl<'a, R: Locks> FileKeep<SystemDisk<'a, R>> {
         // Proved: A keeper on the system's disk is of the path that was given, and no call of it
         // failed yet; a refusal is `Failed`.
         // By `ok`, `only`; `FileKeep::try_lock`: `ok`, `only`; `FileKeep::create_new`.
-        ensures ok { IfOk result (λ keep. keep ≡ kept_at path.now false) }
+        ensures ok { IfOk result (λ keep. keep ≡ keep_at path.now false) }
         ensures only { IfErr result (λ fault. fault ≡ KeepFault.Failed) }
     {
         match lock_file(rt, path, true)? {
             Some(file) => Ok(FileKeep::over(
-                SystemDisk::locked(rt, alloc, path, file, true),
+                SystemDisk::from_locked(rt, alloc, path, file, true),
                 false,
             )),
             None => Err(KeepFault::Failed),
@@ -74,12 +74,12 @@ impl<'a, R: Locks> FileKeep<SystemDisk<'a, R>> {
         alloc: Global,
         path: &'a str,
     ) -> Result<Option<FileKeep<SystemDisk<'a, R>>>, KeepFault>
-        ensures ok { IfOk result (λ found. IfSome found (λ keep. keep ≡ kept_at path.now false)) }
+        ensures ok { IfOk result (λ found. IfSome found (λ keep. keep ≡ keep_at path.now false)) }
         ensures only { IfErr result (λ fault. fault ≡ KeepFault.Failed) }
     {
         match lock_file(rt, path, false)? {
             Some(file) => Ok(Some(FileKeep::over(
-                SystemDisk::locked(rt, alloc, path, file, false),
+                SystemDisk::from_locked(rt, alloc, path, file, false),
                 false,
             ))),
             None => Ok(None),
@@ -90,9 +90,9 @@ impl<'a, R: Locks> FileKeep<SystemDisk<'a, R>> {
     /// fails where something is there by then. No call of it failed yet. Once it made the file, it
     /// has its lock.
     pub fn create_new(rt: &'a R, alloc: Global, path: &'a str) -> FileKeep<SystemDisk<'a, R>>
-        ensures { result ≡ kept_at path.now true }
+        ensures { result ≡ keep_at path.now true }
     {
-        FileKeep::over(SystemDisk::unmade(rt, alloc, path), true)
+        FileKeep::over(SystemDisk::from_path(rt, alloc, path), true)
     }
 
     /// Whether something is there under the path, be it a file, a folder or a link, also one that
@@ -106,11 +106,11 @@ impl<D: Disk> Keep for FileKeep<D> {
     ghost use Rattle.std.specs.Prelude.{◌≡◌, true, false, IfErr, OnOk, OnErr};
     ghost use Rattle.keepers.specs.Crash.{LeavesOnly};
     ghost use Rattle.keepers.specs.Disk.{KeepsFile};
-    ghost use Rattle.keepers.specs.InFile.{Fails, held_in};
+    ghost use Rattle.keepers.specs.InFile.{Fails, contents_of};
     ghost use Rattle.keepers.specs.Keeper.{CountsFailure, Loads};
     ghost use Rattle.keepers.specs.Saved.{IsOldOrNew, SavesFile};
 
-    ghost held = { λ keep. held_in (D.view keep.disk) };
+    ghost held = { λ keep. contents_of (D.view keep.disk) };
 
     ghost is_honest = { λ _. D.is_honest };
 
@@ -138,7 +138,7 @@ impl<D: Disk> Keep for FileKeep<D> {
     fn load(&mut self) -> Result<Vec<u8>, KeepFault>
         // Proved: A keeper in a file is as honest and as durable as its disk.
         // By `value`, `file`, `any_moment`; `FileKeep::save`: `saves`, `any_moment`.
-        ensures value { D.is_honest ≡ true → Loads (held_in (D.view self.old.disk)) result }
+        ensures value { D.is_honest ≡ true → Loads (contents_of (D.view self.old.disk)) result }
         ensures file { D.is_honest ≡ true →
             KeepsFile (D.view self.old.disk) (D.view self.new.disk) }
         ensures any_moment { D.is_honest ≡ true →

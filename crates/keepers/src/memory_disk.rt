@@ -49,7 +49,8 @@ impl MemoryDisk {
     ghost use Rattle.std.specs.Prelude.{◌≡◌, ◌≤◌, ◌∷◌, ◌++◌, [], Some, IfErr, IfOk, OnErr, OnOk};
     ghost use Rattle.std.specs.Prelude.{true, drop, length, option_map};
     ghost use Rattle.keepers.specs.Disk.{HasCause};
-    ghost use Rattle.keepers.specs.InMemory.{contents, drafts_of, placed_of, settled_of};
+    ghost use Rattle.keepers.specs.InMemory.{contents, disk_after_rename, disk_after_sync};
+    ghost use Rattle.keepers.specs.InMemory.{drafts_of};
     ghost use Rattle.keepers.specs.Keeper.{CountRose};
 
     /// A disk with this file, or with none, that every crash leaves, and with something under the
@@ -140,7 +141,7 @@ impl MemoryDisk {
     /// Gives the draft the file's name, in place of its own or beside it, where it may have that: a
     /// crash may leave it too.
     fn place(&mut self, may: bool, is_free: bool) -> Result<(), KeepFault>
-        ensures ok { OnOk result (self.new ≡ placed_of is_free self.old) }
+        ensures ok { OnOk result (self.new ≡ disk_after_rename is_free self.old) }
         ensures may { OnOk result (may ≡ true) }
         ensures err { OnErr result (self.new ≡ record self.old { count = self.new.count }) }
         ensures bound { self.old.settled ≤ length self.old.left }
@@ -163,7 +164,7 @@ impl MemoryDisk {
 
     /// Settles the names, where the draft has the file's: a crash leaves that alone.
     fn settle(&mut self) -> Result<(), KeepFault>
-        ensures ok { OnOk result (self.new ≡ settled_of self.old) }
+        ensures ok { OnOk result (self.new ≡ disk_after_sync self.old) }
         ensures err { OnErr result (self.new ≡ record self.old { count = self.new.count }) }
         ensures bound { self.old.settled ≤ length self.old.left }
         ensures only { IfErr result (λ fault. fault ≡ KeepFault.Failed) }
@@ -197,7 +198,7 @@ impl MemoryDisk {
 
 impl Disk for MemoryDisk {
     ghost use Rattle.std.specs.Prelude.{[], true};
-    ghost use Rattle.keepers.specs.InMemory.{IsFrom, later, view_of};
+    ghost use Rattle.keepers.specs.InMemory.{IsFrom, later_front, view_of};
 
     // Proved: A disk in memory, for tests, is honest.
     ghost is_honest = { true };
@@ -212,7 +213,7 @@ impl Disk for MemoryDisk {
 
     ghost faults = { λ disk. disk.count };
 
-    ghost counts_now = { λ disk t c. later disk.left t disk.settled c };
+    ghost counts_now = { λ disk t c. later_front disk.left t disk.settled c };
 
     ghost only_now = { λ _ _ now. now };
 

@@ -41,7 +41,7 @@ impl<'a, R: Locks> SystemDisk<'a, R> {
     ghost use Rattle.keepers.specs.Keeper.{CountRose};
 
     /// The file of this path, which is there, and was opened and locked.
-    pub(crate) fn locked(
+    pub(crate) fn from_locked(
         rt: &'a R,
         alloc: Global,
         path: &'a str,
@@ -68,7 +68,7 @@ impl<'a, R: Locks> SystemDisk<'a, R> {
     }
 
     /// The file of this path, which isn't there yet.
-    pub(crate) fn unmade(rt: &'a R, alloc: Global, path: &'a str) -> Self
+    pub(crate) fn from_path(rt: &'a R, alloc: Global, path: &'a str) -> Self
         ensures { result ≡ record { path = path.now; count = 0 } }
     {
         SystemDisk {
@@ -178,7 +178,7 @@ impl<'a, R: Locks> SystemDisk<'a, R> {
     }
 
     /// What a call answers, which is counted if it failed.
-    fn counted(&mut self, answer: io::Result<()>) -> Result<(), KeepFault>
+    fn count_failure(&mut self, answer: io::Result<()>) -> Result<(), KeepFault>
         ensures path { self.new.path ≡ self.old.path }
         ensures only { IfErr result (λ fault. fault ≡ KeepFault.Failed) }
         ensures cause { HasCause self.old.count self.new.count result }
@@ -200,7 +200,7 @@ fn sync_file<F: OpenFile>(file: &Option<F>) -> io::Result<()> {
 
 impl<'a, R: Locks> Disk for SystemDisk<'a, R> {
     ghost use Rattle.std.specs.Prelude.{false};
-    ghost use Rattle.keepers.specs.OnDisk.{unknown};
+    ghost use Rattle.keepers.specs.OnDisk.{no_view};
 
     // Not proved: that the system's disk does what `Disk` says of one that is honest: it is only
     // tested.
@@ -208,7 +208,7 @@ impl<'a, R: Locks> Disk for SystemDisk<'a, R> {
 
     ghost place = { λ disk. disk.path };
 
-    ghost view = { λ _. unknown };
+    ghost view = { λ _. no_view };
 
     ghost moment = { λ _. 0 };
 
@@ -229,12 +229,12 @@ impl<'a, R: Locks> Disk for SystemDisk<'a, R> {
 
     fn clear(&mut self) -> Result<(), KeepFault> {
         let answer = self.remove_draft();
-        self.counted(answer)
+        self.count_failure(answer)
     }
 
     fn make(&mut self) -> Result<(), KeepFault> {
         let answer = self.make_draft();
-        self.counted(answer)
+        self.count_failure(answer)
     }
 
     fn write(&mut self, bytes: &[u8]) -> Result<(), KeepFault> {
@@ -246,22 +246,22 @@ impl<'a, R: Locks> Disk for SystemDisk<'a, R> {
 
     fn sync(&mut self) -> Result<(), KeepFault> {
         let answer = sync_file(&self.draft);
-        self.counted(answer)
+        self.count_failure(answer)
     }
 
     fn rename(&mut self) -> Result<(), KeepFault> {
         let answer = self.place_draft(true);
-        self.counted(answer)
+        self.count_failure(answer)
     }
 
     fn link(&mut self) -> Result<(), KeepFault> {
         let answer = self.place_draft(false);
-        self.counted(answer)
+        self.count_failure(answer)
     }
 
     fn sync_folder(&mut self) -> Result<(), KeepFault> {
         let answer = sync_file(&self.folder);
-        self.counted(answer)
+        self.count_failure(answer)
     }
 
     fn failures(&self) -> u64 {

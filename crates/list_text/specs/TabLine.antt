@@ -3,7 +3,7 @@ use Rattle.std.specs.Prelude.{ℕ, ◌-◌, ◌==◌, ◌||◌, List, [], ◌∷
 use Rattle.std.specs.Prelude.{encode_utf8, if◌then◌else◌, nat_lt, Option, Some, None}
 use Rattle.std.specs.List.{flat_map}
 use Rattle.ticket_items.specs.SpawnId.{spawn_text}
-use Rattle.job_list.specs.Work.{known, phase_word}
+use Rattle.job_list.specs.Work.{known_text, phase_word}
 use Rattle.job_list.specs.declared.work.Work.{Work}
 
 -- a tab between two places
@@ -37,14 +37,14 @@ size_text (Some bytes) = decimal bytes
 -- the job, the spawn, the phase, the other controller, the node and its DescriptiveName
 unfoldable pub work_part : Work → List ℕ
 work_part w =
-    then_tab (known w.job) (then_tab (spawn_text w.spawn_id) (then_tab (phase_word w.phase)
-    (then_tab w.other (then_tab (known w.node) (name_text w.descriptive_name)))))
+    then_tab (known_text w.job) (then_tab (spawn_text w.spawn_id) (then_tab (phase_word w.phase)
+    (then_tab w.other (then_tab (known_text w.node) (name_text w.descriptive_name)))))
 
 -- the time of work, how many seconds that is back, the Status and the size
 unfoldable pub rest_part : Option ℕ → ℕ → Work → List ℕ
 rest_part bytes now w =
     then_tab (decimal w.at) (then_tab (decimal (now - w.at))
-    (then_tab (known w.status) (size_text bytes)))
+    (then_tab (known_text w.status) (size_text bytes)))
 
 -- the line of a controller's work at a time, whose message has so many bytes, if there is one
 unfoldable pub tab_line : List ℕ → Option ℕ → ℕ → Work → List ℕ

@@ -8,12 +8,16 @@ ghost use Rattle.list_text.specs.JsonLine as line;
 
 use job_list::Work;
 use json::Writer;
-use json_text::{Printed, finished, print_member, print_text};
+use json_text::{PrintForm, print_member, print_text, written_text};
 use std::alloc::{AllocError, Global};
 use ticket_items::Id;
 
 /// Prints an item under a name, or `null` where there is none.
-fn print_known<T: Printed>(out: &mut Writer, name: &str, item: &Option<T>) -> Result<(), AllocError>
+fn print_known<T: PrintForm>(
+    out: &mut Writer,
+    name: &str,
+    item: &Option<T>,
+) -> Result<(), AllocError>
     ensures printed { OnOk result (IsAppended
         (TokenSeen.key name.now ∷ data_tokens (line.known_data T.written item.now))
         out.old out.new) }
@@ -72,7 +76,7 @@ pub fn json_line(
 {
     let mut out = Writer::new(Vec::new(alloc));
     print_work(alloc, &mut out, controller, work, bytes, now)?;
-    let mut made = finished(out);
+    let mut made = written_text(out);
     made.push(b'\n')?;
     Ok(made)
 }

@@ -7,7 +7,7 @@ use crate::listener::GuestListener;
 use crate::wire::Wire;
 use http_message::{Received, refused_bytes};
 use mio::{Interest, Registry, Token};
-use peers::{Asked, Client, Limits, Turn};
+use peers::{Client, Limits, OwedClient, Turn};
 use slab::Slab;
 use std::alloc::{AllocError, Global};
 use std::io::{self, ErrorKind};
@@ -34,9 +34,9 @@ pub struct Guest<S> {
 
 /// What one of them asked for.
 #[derive(Drop)]
-pub struct Wanted<S> {
+pub struct GuestRequest<S> {
     pub key: usize,
-    pub asked: Asked<S>,
+    pub asked: OwedClient<S>,
     pub request: Received,
 }
 
@@ -54,7 +54,7 @@ pub struct Guests<L: GuestListener> {
     /// Those whose streams may have something or take something.
     ready: Vec<usize>,
     /// What was asked for and isn't answered, in the order in which it came.
-    wanted: Vec<Wanted<L::Stream>>,
+    wanted: Vec<GuestRequest<L::Stream>>,
 }
 
 impl<L: GuestListener> Guests<L> {
@@ -97,7 +97,7 @@ impl<L: GuestListener> Guests<L> {
         let mut held: usize = 0;
         for (_, guest) in self.held.iter() {
             if let Some(client) = &guest.client {
-                held = held.saturating_add(client.held());
+                held = held.saturating_add(client.held_bytes());
             }
         }
         held
@@ -240,7 +240,7 @@ impl<L: GuestListener> Guests<L> {
     pub fn answer(
         &mut self,
         key: usize,
-        asked: Asked<L::Stream>,
+        asked: OwedClient<L::Stream>,
         response: &[u8],
         now: u64,
     ) -> Result<(), AllocError> {
@@ -253,7 +253,7 @@ impl<L: GuestListener> Guests<L> {
         &mut self,
         alloc: Global,
         key: usize,
-        asked: Asked<L::Stream>,
+        asked: OwedClient<L::Stream>,
         refused: &Refused,
         now: u64,
     ) -> Result<(), AllocError> {
@@ -283,7 +283,7 @@ impl<L: GuestListener> Guests<L> {
                 Ok(self.ready.push(key)?)
             }
             Turn::Request(asked, request) => {
-                self.wanted.push(Wanted {
+                self.wanted.push(GuestRequest {
                     key,
                     asked,
                     request,
@@ -319,7 +319,7 @@ impl<L: GuestListener> Guests<L> {
     }
 
     /// What was asked for, where there is room for what is made of it.
-    pub fn take_wanted(&mut self, alloc: Global) -> Vec<Wanted<L::Stream>> {
+    pub fn take_wanted(&mut self, alloc: Global) -> Vec<GuestRequest<L::Stream>> {
         if self.held_bytes() < MOST_HELD {
             mem::replace(&mut self.wanted, Vec::new(alloc))
         } else {
@@ -328,7 +328,7 @@ impl<L: GuestListener> Guests<L> {
     }
 
     /// Has one wait on.
-    pub fn put_off(&mut self, wanted: Wanted<L::Stream>) -> Result<(), AllocError> {
+    pub fn put_off(&mut self, wanted: GuestRequest<L::Stream>) -> Result<(), AllocError> {
         self.wanted.push(wanted)?;
         Ok(())
     }

@@ -11,7 +11,7 @@ mod order_listener;
 mod page_listener;
 mod wire;
 
-pub use guests::{Guest, Guests, Wanted};
+pub use guests::{Guest, GuestRequest, Guests};
 pub use listener::{GuestListener, Listener};
 pub use log::Log;
 pub use message_listener::MessageListener;

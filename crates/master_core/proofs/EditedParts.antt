@@ -20,7 +20,7 @@ use Rattle.ticket_items.specs.declared.node_row.NodeRow.{NodeRow}
 use Rattle.ticket_rows.proofs.Below.{Path, mem-drop, mem-node_ids}
 use Rattle.ticket_rows.proofs.NodePlaces.{nodes_from, node_places-rows}
 use Rattle.ticket_items.specs.Edit.{added_id, target}
-use Rattle.ticket_rows.specs.Edit.{behind_last, edited, refusal_of}
+use Rattle.ticket_rows.specs.Edit.{behind_last, job_after_edit, refusal_of}
 use Rattle.ticket_rows.specs.Place.{Place, Row, Thing, node, resource, is_node}
 use Rattle.ticket_rows.specs.Place.{is_node_thing, node_place, path_of}
 use Rattle.ticket_rows.specs.Place.{place_at, places, node_places, nodes_in, row_in, last_of}
@@ -53,7 +53,7 @@ EditKeepsParts =
     (t : Job) (recs : List SpawnRec) (e : Edit) (at : ℕ) (k : ℕ) (r : SpawnRec) → IsValid t.rows
     → StandApart t.rows recs → refusal_of e t.rows ≡ None
     → holder_of t.rows recs (target e) ≡ Some Master → slice_get recs k ≡ Some r
-    → is_out r ≡ true → part_for (edited e at t) r ≡ part_for t r
+    → is_out r ≡ true → part_for (job_after_edit e at t) r ≡ part_for t r
 
 -- ---- ancestors, by places
 
@@ -350,7 +350,7 @@ claimed_stands rows r x valid there =
 pub edit_keeps_parts : EditKeepsParts
 edit_keeps_parts t recs e at k r valid apart free held there out =
     let good = apart.good k r there out in
-    let later = edited e at t in
+    let later = job_after_edit e at t in
     let valid' = edit_is_valid e at t.rows valid free in
     let claims = edit_keeps_claims t.rows recs e at valid free held k r there out good in
     let stands = λ (x : List ℕ) (there : mem x (ids_of (claim (places t.rows) r.node r.rw)) ≡ true).

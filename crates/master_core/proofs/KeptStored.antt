@@ -11,7 +11,7 @@ use Rattle.spawn.proofs.HeldOnce.{standing_is_a_test}
 use Rattle.spawn.specs.Holdings.{Holdings, IsTable}
 use Rattle.spawn.specs.Stored.{are_apart, are_good, stands_in}
 use Rattle.spawn.specs.declared.records.spawn_rec.SpawnRec.{SpawnRec}
-use Rattle.master_core.specs.Master.{IsInStep, IsKept, IsNumbered, Known}
+use Rattle.master_core.specs.Master.{IsConsistent, IsInStep, IsNumbered, State}
 use Rattle.master_core.specs.Stored.{AKeptMasterIsStored, are_numbered, are_recorded, are_sent, is_master}
 
 -- ---- what holds of each
@@ -52,7 +52,7 @@ is_numbered records passes k r at = omega (arith, numbered_from 1 records passes
 
 -- ---- the whole
 
-pub kept_from : (w : Known) → IsValid w.ticket.rows → is_master w ≡ true → IsKept w
+pub kept_from : (w : State) → IsValid w.ticket.rows → is_master w ≡ true → IsConsistent w
 kept_from w valid passes =
     let names = are_distinct (w.name ∷ w.workers) in
     let numbered = are_numbered 1 w.records in
@@ -91,7 +91,7 @@ a_kept_master_is_stored w kept =
     (and_from (stand && good) apart (and_from stand good (each_passes (stands_in w.ticket.rows) w.records kept.recorded) both.0) both.1)
 
 -- where the other tests pass, that of the records decides
-pub kept_by : {E : Type 0} (result : Result (Option Holdings) E) (w : Known)
+pub kept_by : {E : Type 0} (result : Result (Option Holdings) E) (w : State)
     → IfOk result (λ found. IfSome found (λ _. IsValid w.ticket.rows))
     → IfOk result (λ found. IfSome found (λ h. IsTable w.ticket.rows w.records h))
     → are_distinct (w.name ∷ w.workers) ≡ true → are_numbered 1 w.records ≡ true

@@ -11,9 +11,9 @@ use Rattle.ticket_rows.specs.Place.{places}
 use Rattle.ticket_rows.specs.Ticket.{IsValid, are_unreserved}
 use Rattle.ticket_tree.proofs.PlainOneRow.{append_of_places}
 use Rattle.ticket_tree.proofs.StaysValid.{append_is_valid}
-use Rattle.ticket_tree.specs.Part.{Copied}
+use Rattle.ticket_tree.specs.Part.{PartCopy}
 use Rattle.controller.specs.Reply.{spawn_in}
-use Rattle.controller.specs.Step.{answering}
+use Rattle.controller.specs.Step.{message_step}
 use Rattle.controller.specs.declared.body.Body.{Body}
 use Rattle.controller.specs.declared.body.Body.TheVariants.{Submit, Return, Abort, Answer}
 use Rattle.controller.specs.declared.message.Message.{Message}
@@ -32,13 +32,13 @@ use Rattle.merge.proofs.PutPlaces.{put_of_places}
 use Rattle.merge.proofs.PutValid.{put_is_valid}
 use Rattle.merge.specs.Put.{put}
 use Rattle.merge.specs.Shape.{Fits}
-use Rattle.merge.specs.Withdrawal.{withdrawn, withdrawn_audit}
+use Rattle.merge.specs.Withdrawal.{job_after_withdrawal, withdrawn_audit}
 use Rattle.master_core.proofs.Recorded.{phase_at_place, phase_if, phase_numbered, phase_worker}
 use Rattle.master_core.proofs.Refusals.{part_free, take_free}
 use Rattle.master_core.proofs.StandsIn.{still_stands}
 use Rattle.master_core.specs.Laws.{MessageIsKept}
-use Rattle.master_core.specs.Master.{IsKept, Known, in_phase, is_of, record_of, with_phase}
-use Rattle.master_core.specs.Messages.{IsValidBody, already, body_refusal, declined, freed, freeing, is_declined, merged, merging, noted, returned, take_refusal, taken, while_out}
+use Rattle.master_core.specs.Master.{IsConsistent, State, in_phase, is_of, record_of, with_phase}
+use Rattle.master_core.specs.Messages.{IsValidBody, body_refusal, is_declined, merge_taking, note_taking, on_body, on_decline, on_return, repeat_taking, state_after_merge, state_after_withdrawal, take_refusal, while_out, withdrawal_taking}
 
 -- ---- what a valid part says
 
@@ -64,7 +64,7 @@ phase_recorded ph s rows later records same recorded =
 
 -- ---- a part put in
 
-pub merged_kept : (p : Copied) (at : ℕ) (w : Known) (r : SpawnRec) → IsValid (with_copies p.rows p.rw p.ro) → IsKept w → Placed w.records r → is_out r ≡ true → Fits w.ticket r p → IsKept (merged p at w r)
+pub merged_kept : (p : PartCopy) (at : ℕ) (w : State) (r : SpawnRec) → IsValid (with_copies p.rows p.rw p.ro) → IsConsistent w → Placed w.records r → is_out r ≡ true → Fits w.ticket r p → IsConsistent (state_after_merge p at w r)
 merged_kept p at w r valid kept place out fits =
     let good = kept.apart.good place.place r place.there out in
     record {
@@ -76,22 +76,22 @@ merged_kept p at w r valid kept place out fits =
       apart = subst (StandApart (put w.ticket r p at).rows) (sym (phase_at_place Merged w.records place.place r kept.numbered place.there)) (merge_keeps_apart w.ticket w.records place.place r p at kept.valid kept.apart place.there out fits);
     }
 
-out_kept : (out : Bool) (p : Copied) (at : ℕ) (w : Known) (r : SpawnRec) → is_out r ≡ out → IsValid (with_copies p.rows p.rw p.ro) → IsKept w → Placed w.records r → body_refusal (Return p) w r ≡ None → IsKept (cond out (merging p at w r) (already p w)).next
+out_kept : (out : Bool) (p : PartCopy) (at : ℕ) (w : State) (r : SpawnRec) → is_out r ≡ out → IsValid (with_copies p.rows p.rw p.ro) → IsConsistent w → Placed w.records r → body_refusal (Return p) w r ≡ None → IsConsistent (cond out (merge_taking p at w r) (repeat_taking p w)).next
 out_kept true p at w r out valid kept place none = merged_kept p at w r valid kept place out (part_fits w.ticket r p (part_free p w r none out))
 out_kept false p at w r out valid kept place none = kept
 
-taken_kept : (p : Copied) (at : ℕ) (w : Known) (r : SpawnRec) → IsValid (with_copies p.rows p.rw p.ro) → IsKept w → record_of w.records p.spawn_id ≡ Some r → body_refusal (Return p) w r ≡ None → IsKept (returned p at w).next
+taken_kept : (p : PartCopy) (at : ℕ) (w : State) (r : SpawnRec) → IsValid (with_copies p.rows p.rw p.ro) → IsConsistent w → record_of w.records p.spawn_id ≡ Some r → body_refusal (Return p) w r ≡ None → IsConsistent (on_return p at w).next
 taken_kept p at w r valid kept found none =
-    subst (λ o. IsKept (while_out (merging p at w) (already p w) o).next) (sym found) (out_kept (is_out r) p at w r refl valid kept (placed (is_of p.spawn_id) w.records r found) none)
+    subst (λ o. IsConsistent (while_out (merge_taking p at w) (repeat_taking p w) o).next) (sym found) (out_kept (is_out r) p at w r refl valid kept (placed (is_of p.spawn_id) w.records r found) none)
 
 -- ---- a spawn withdrawn
 
-pub freed_kept : (at : ℕ) (w : Known) (r : SpawnRec) → IsKept w → Placed w.records r → is_out r ≡ true → IsKept (freed at w r)
+pub freed_kept : (at : ℕ) (w : State) (r : SpawnRec) → IsConsistent w → Placed w.records r → is_out r ≡ true → IsConsistent (state_after_withdrawal at w r)
 freed_kept at w r kept place out =
     let rows = w.ticket.rows in
     let above = parent_of rows r.node in
     let audit = withdrawn_audit r at in
-    let later = (withdrawn w.ticket r at).rows in
+    let later = (job_after_withdrawal w.ticket r at).rows in
     let still : places later ≡ places rows = append_of_places above audit rows in
     record {
       names = kept.names;
@@ -102,24 +102,24 @@ freed_kept at w r kept place out =
       apart = subst (StandApart later) (sym (phase_at_place Withdrawn w.records place.place r kept.numbered place.there)) (end_keeps_apart rows later w.records place.place r (in_phase Withdrawn r) still kept.apart place.there out refl);
     }
 
-free_if_out : (out : Bool) (s at : ℕ) (w : Known) (r : SpawnRec) → is_out r ≡ out → IsKept w → Placed w.records r → IsKept (cond out (freeing s at w r) (noted s w)).next
+free_if_out : (out : Bool) (s at : ℕ) (w : State) (r : SpawnRec) → is_out r ≡ out → IsConsistent w → Placed w.records r → IsConsistent (cond out (withdrawal_taking s at w r) (note_taking s w)).next
 free_if_out true s at w r out kept place = freed_kept at w r kept place out
 free_if_out false s at w r out kept place = kept
 
-answered_kept : (says : Bool) (s at : ℕ) (w : Known) (r : SpawnRec) → IsKept w → record_of w.records s ≡ Some r → IsKept (cond says (declined s at w) (noted s w)).next
+answered_kept : (says : Bool) (s at : ℕ) (w : State) (r : SpawnRec) → IsConsistent w → record_of w.records s ≡ Some r → IsConsistent (cond says (on_decline s at w) (note_taking s w)).next
 answered_kept false s at w r kept found = kept
 answered_kept true s at w r kept found =
-    subst (λ o. IsKept (while_out (freeing s at w) (noted s w) o).next) (sym found) (free_if_out (is_out r) s at w r refl kept (placed (is_of s) w.records r found))
+    subst (λ o. IsConsistent (while_out (withdrawal_taking s at w) (note_taking s w) o).next) (sym found) (free_if_out (is_out r) s at w r refl kept (placed (is_of s) w.records r found))
 
 -- ---- messages
 
-kept_at : (body : Body) (at : ℕ) (w : Known) → IsValidBody body → IsKept w → (r : SpawnRec) → record_of w.records (spawn_in body) ≡ Some r → body_refusal body w r ≡ None → IsKept (taken body at w).next
+kept_at : (body : Body) (at : ℕ) (w : State) → IsValidBody body → IsConsistent w → (r : SpawnRec) → record_of w.records (spawn_in body) ≡ Some r → body_refusal body w r ≡ None → IsConsistent (on_body body at w).next
 kept_at (Submit p) at w valid kept r found none = kept
 kept_at (Return p) at w valid kept r found none = taken_kept p at w r valid kept found none
 kept_at (Abort s) at w valid kept r found none = kept
 kept_at (Answer c s told) at w valid kept r found none = answered_kept (is_declined c told) s at w r kept found
 
-kept_either : (refusal : Option Refusal) (m : Message) (at : ℕ) (w : Known) → take_refusal m w ≡ refusal → IsValidBody m.body → IsKept w → IsKept (answering w.name m at refusal w (taken m.body at w)).next
+kept_either : (refusal : Option Refusal) (m : Message) (at : ℕ) (w : State) → take_refusal m w ≡ refusal → IsValidBody m.body → IsConsistent w → IsConsistent (message_step w.name m at refusal w (on_body m.body at w)).next
 kept_either (Some e) m at w refused valid kept = kept
 kept_either None m at w none valid kept =
     let there = take_free m w none in

@@ -16,7 +16,7 @@ use Rattle.ticket_rows.specs.Place.{node_places, places, up}
 use Rattle.ticket_rows.specs.Ticket.{first_of, has_node, unless}
 use Rattle.controller.proofs.Answered.{is_idle, replies_so}
 use Rattle.controller.proofs.NeverMemory.{IsOther, either, later, none, other, test, three, unknown}
-use Rattle.controller.specs.Step.{refused}
+use Rattle.controller.specs.Step.{refused_step}
 use Rattle.spawn.specs.Claim.{ids_of, linked_outside}
 use Rattle.spawn.specs.Spawning as spawning
 use Rattle.spawn.specs.declared.records.spawn_rec.SpawnRec.{SpawnRec}
@@ -45,7 +45,7 @@ spawns true true true true f (Some e) isnt = isnt
 spawns true true true true false None isnt = other refusals.TooManySpawns refl
 spawns true true true true true None isnt = tt
 
-pub never_memory : (o : master_order.Order) (w : master.Known) → IsOther (master_orders.order_refusal o w)
+pub never_memory : (o : master_order.Order) (w : master.State) → IsOther (master_orders.order_refusal o w)
 never_memory (to_master.Edit e) w =
     three (unknown_refusal e (lookups w.ticket.rows)) (master_orders.not_held w (target e)) (later_refusal e (lookups w.ticket.rows))
     (unknown e (lookups w.ticket.rows)) (held (master.holder w (target e))) (later e (lookups w.ticket.rows))
@@ -62,14 +62,14 @@ never_memory (to_master.Withdraw s) w = test _ _ (other refusals.NotOut refl)
 -- ---- what a step tells of a refusal
 
 -- what isn't refused is done
-done : (o : master_order.Order) (at' : ℕ) (w : master.Known) (P : Refusal → Type 0) → IfErr (master_orders.ordered o at' w).reply P
+done : (o : master_order.Order) (at' : ℕ) (w : master.State) (P : Refusal → Type 0) → IfErr (master_orders.allowed_step o at' w).reply P
 done (to_master.Edit e) at' w P = tt
 done (to_master.Spawn n v rw) at' w P = tt
 done (to_master.Resend s) at' w P = tt
 done (to_master.Withdraw s) at' w P = tt
 
-pub order_known : (o : master_order.Order) (at' : ℕ) (w : master.Known) → IfErr (master_orders.order_step o at' w).reply (λ e. e ≢ Memory)
-order_known o at' w = replies_so (master_orders.order_refusal o w) w (master_orders.ordered o at' w) (λ e. e ≢ Memory) (done o at' w _) (never_memory o w)
+pub order_known : (o : master_order.Order) (at' : ℕ) (w : master.State) → IfErr (master_orders.order_step o at' w).reply (λ e. e ≢ Memory)
+order_known o at' w = replies_so (master_orders.order_refusal o w) w (master_orders.allowed_step o at' w) (λ e. e ≢ Memory) (done o at' w _) (never_memory o w)
 
-pub order_idle : (o : master_order.Order) (at' : ℕ) (w : master.Known) → IfErr (master_orders.order_step o at' w).reply (λ e. master_orders.order_step o at' w ≡ refused e w)
-order_idle o at' w = is_idle (master_orders.order_refusal o w) w (master_orders.ordered o at' w) (done o at' w _)
+pub order_idle : (o : master_order.Order) (at' : ℕ) (w : master.State) → IfErr (master_orders.order_step o at' w).reply (λ e. master_orders.order_step o at' w ≡ refused_step e w)
+order_idle o at' w = is_idle (master_orders.order_refusal o w) w (master_orders.allowed_step o at' w) (done o at' w _)

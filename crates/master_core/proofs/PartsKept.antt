@@ -9,14 +9,14 @@ use Rattle.ticket_items.proofs.Places.{same_found}
 use Rattle.ticket_items.specs.Ids.{mem}
 use Rattle.ticket_items.specs.declared.node_row.NodeRow.{NodeRow}
 use Rattle.ticket_items.specs.declared.refusal.Refusal.{Refusal}
-use Rattle.ticket_rows.specs.OneRow.{appended}
+use Rattle.ticket_rows.specs.OneRow.{rows_with_audit}
 use Rattle.ticket_rows.specs.Place.{Row, place_at, places, row_in, nodes_in, up}
 use Rattle.ticket_rows.specs.Ticket.{IsValid, Job, are_unreserved}
 use Rattle.ticket_tree.proofs.PlainOneRow.{append_of_places, append_of_rows}
 use Rattle.ticket_tree.proofs.StaysValid.{append_is_valid}
-use Rattle.ticket_tree.specs.Part.{Copied}
+use Rattle.ticket_tree.specs.Part.{PartCopy}
 use Rattle.ticket_tree.specs.PartView.{part_row}
-use Rattle.ticket_tree.specs.PlainEdit.{touch}
+use Rattle.ticket_tree.specs.PlainEdit.{with_row_changed}
 use Rattle.controller.specs.Reply.{spawn_in}
 use Rattle.controller.specs.Step.{unless_refused}
 use Rattle.controller.specs.declared.body.Body.TheVariants.{Return}
@@ -32,8 +32,8 @@ use Rattle.spawn.specs.Claim.{claim, ids_of, is_claimed}
 use Rattle.spawn.specs.Laws.{StandApart}
 use Rattle.spawn.specs.Parts.{part_for}
 use Rattle.spawn.specs.Records.{is_out}
-use Rattle.spawn.specs.Spawning.{parent_of, spawned, spawned_audit}
-use Rattle.spawn.specs.Table.{holder_at, holder_of, holding}
+use Rattle.spawn.specs.Spawning.{job_after_spawn, parent_of, spawned_audit}
+use Rattle.spawn.specs.Table.{holder_at, holder_of, holding_record}
 use Rattle.spawn.specs.declared.records.phase.Phase.TheVariants.{Merged, Withdrawn}
 use Rattle.spawn.specs.declared.records.spawn_rec.SpawnRec.{SpawnRec}
 use Rattle.spawn.specs.declared.tables.holder.Holder.TheVariants.{Master, Spawn}
@@ -43,7 +43,7 @@ use Rattle.merge.proofs.PutValid.{put_is_valid}
 use Rattle.merge.specs.PlainPut.{merged_rows}
 use Rattle.merge.specs.Put.{put}
 use Rattle.merge.specs.Shape.{Fits}
-use Rattle.merge.specs.Withdrawal.{withdrawn, withdrawn_audit}
+use Rattle.merge.specs.Withdrawal.{job_after_withdrawal, withdrawn_audit}
 use Rattle.master_core.proofs.EditedParts.{edit_keeps_parts, same_ancestors}
 use Rattle.merge.proofs.Fitting.{part_fits}
 use Rattle.controller.specs.declared.reply.Reply.TheVariants as reply
@@ -53,9 +53,9 @@ use Rattle.master_core.proofs.OrderLaws.{records_stay}
 use Rattle.master_core.proofs.Recorded.{found_phase, get_front, get_last, number_is, phase_if, phase_or}
 use Rattle.master_core.proofs.Refusals.{edit_free, part_free, spawn_free, take_free}
 use Rattle.master_core.specs.Laws.{MessageKeepsSpawns, OrderKeepsSpawns}
-use Rattle.master_core.specs.Master.{IsKept, Known, is_of, merged_record, next_number, record_of, withdrawn_record}
-use Rattle.master_core.specs.Messages.{IsValidBody, body_refusal, freed, merged, take_refusal, take_step}
-use Rattle.master_core.specs.Orders.{next_record, order_refusal, ordered}
+use Rattle.master_core.specs.Master.{IsConsistent, State, is_of, merged_record, next_number, record_of, withdrawn_record}
+use Rattle.master_core.specs.Messages.{IsValidBody, body_refusal, state_after_merge, state_after_withdrawal, take_refusal, take_step}
+use Rattle.master_core.specs.Orders.{allowed_step, next_record, order_refusal}
 use Rattle.master_core.specs.declared.order.Order.{Order}
 use Rattle.master_core.specs.declared.order.Order.TheVariants as order
 
@@ -71,7 +71,7 @@ claimed_not_parent rows recs j q k r x valid apart at_q out_q at_r out_r there =
     let found = kept_found (is_claimed r.node r.rw) (places rows) x (ids_apart rows valid) there in
     let holds = claim_is_held rows recs apart k r x found.0 at_r out_r found.1 found.2 in
     false_by (bytes_eq (parent_of rows q.node) x) (λ same.
-    no_master r (holding recs found.0) holds
+    no_master r (holding_record recs found.0) holds
     (sym (ap (option_map (holder_at recs)) found.1) ∙ ap (holder_of rows recs) (sym ((bytes_eq-Decides (parent_of rows q.node) x).0 same)) ∙ parent_is_masters rows recs valid apart j q at_q out_q))
 
 -- ---- a part stays where nothing moves and no row of its claim changes
@@ -80,15 +80,15 @@ unmoved : (t u : Job) (r : SpawnRec) → IsValid t.rows → IsValid u.rows → u
 unmoved t u r valid valid' job same rows =
     part_stays t u r valid valid' job (ap (λ tree. claim tree r.node r.rw) same) rows (same_ancestors t.rows u.rows r.node valid valid' same)
 
-untouched : (n : List ℕ) (f : Row → Row) (rows : List ℕ → Option Row) (x : List ℕ) → bytes_eq n x ≡ false → touch n f rows x ≡ rows x
+untouched : (n : List ℕ) (f : Row → Row) (rows : List ℕ → Option Row) (x : List ℕ) → bytes_eq n x ≡ false → with_row_changed n f rows x ≡ rows x
 untouched n f rows x off = ap (λ b. cond b (option_map f (rows x)) (rows x)) off
 
 -- ---- as another spawn is merged
 
-merged_elsewhere : (t : Job) (q : SpawnRec) (p : Copied) (x : List ℕ) → option_map_or (is_claimed q.node q.rw) (place_at (places t.rows) x) false ≡ false → merged_rows t q p x ≡ row_in t.rows x
+merged_elsewhere : (t : Job) (q : SpawnRec) (p : PartCopy) (x : List ℕ) → option_map_or (is_claimed q.node q.rw) (place_at (places t.rows) x) false ≡ false → merged_rows t q p x ≡ row_in t.rows x
 merged_elsewhere t q p x off = ap (λ b. cond b (part_row p x) (row_in t.rows x)) off
 
-merge_keeps_part : (t : Job) (recs : List SpawnRec) (j : ℕ) (q : SpawnRec) (k : ℕ) (r : SpawnRec) (p : Copied) (at : ℕ) → IsValid t.rows → IsValid (put t q p at).rows → StandApart t.rows recs → Fits t q p → slice_get recs j ≡ Some q → is_out q ≡ true → slice_get recs k ≡ Some r
+merge_keeps_part : (t : Job) (recs : List SpawnRec) (j : ℕ) (q : SpawnRec) (k : ℕ) (r : SpawnRec) (p : PartCopy) (at : ℕ) → IsValid t.rows → IsValid (put t q p at).rows → StandApart t.rows recs → Fits t q p → slice_get recs j ≡ Some q → is_out q ≡ true → slice_get recs k ≡ Some r
     → is_out r ≡ true → (j ≡ k → ⊥) → part_for (put t q p at) r ≡ part_for t r
 merge_keeps_part t recs j q k r p at valid valid' apart fits at_q out_q at_r out_r other =
     let good = apart.good j q at_q out_q in
@@ -104,18 +104,18 @@ merge_keeps_part t recs j q k r p at valid valid' apart fits at_q out_q at_r out
 -- ---- as another spawn is withdrawn
 
 withdrawal_keeps_part : (t : Job) (recs : List SpawnRec) (j : ℕ) (q : SpawnRec) (k : ℕ) (r : SpawnRec) (at : ℕ) → IsValid t.rows → StandApart t.rows recs → slice_get recs j ≡ Some q → is_out q ≡ true → slice_get recs k ≡ Some r
-    → is_out r ≡ true → part_for (withdrawn t q at) r ≡ part_for t r
+    → is_out r ≡ true → part_for (job_after_withdrawal t q at) r ≡ part_for t r
 withdrawal_keeps_part t recs j q k r at valid apart at_q out_q at_r out_r =
     let u = parent_of t.rows q.node in
     let audit = withdrawn_audit q at in
     let known = (above_apart t.rows q.node valid (apart.good j q at_q out_q).has_parent).1 in
-    unmoved t (withdrawn t q at) r valid (append_is_valid u audit t.rows valid) refl (append_of_places u audit t.rows)
+    unmoved t (job_after_withdrawal t q at) r valid (append_is_valid u audit t.rows valid) refl (append_of_places u audit t.rows)
     (λ x there. append_of_rows u audit t.rows valid known x ∙ untouched u _ (row_in t.rows) x (claimed_not_parent t.rows recs j q k r x valid apart at_q out_q at_r out_r there))
 
 -- ---- as another spawn goes out
 
-spawn_keeps_part : (w : Known) (node worker : List ℕ) (copies : List (List ℕ)) (at k : ℕ) (r : SpawnRec) → IsKept w → order_refusal (order.Spawn node worker copies) w ≡ None → slice_get w.records k ≡ Some r → is_out r ≡ true
-    → part_for (spawned w.ticket (next_record w node worker copies at)) r ≡ part_for w.ticket r
+spawn_keeps_part : (w : State) (node worker : List ℕ) (copies : List (List ℕ)) (at k : ℕ) (r : SpawnRec) → IsConsistent w → order_refusal (order.Spawn node worker copies) w ≡ None → slice_get w.records k ≡ Some r → is_out r ≡ true
+    → part_for (job_after_spawn w.ticket (next_record w node worker copies at)) r ≡ part_for w.ticket r
 spawn_keeps_part w node worker copies at k r kept none at_r out =
     let rows = w.ticket.rows in
     let recs = w.records in
@@ -123,12 +123,12 @@ spawn_keeps_part w node worker copies at k r kept none at_r out =
     let free = spawn_free w node worker copies none in
     let audit = spawned_audit rows new in
     let u = parent_of rows node in
-    let later = appended u audit rows in
+    let later = rows_with_audit u audit rows in
     let still : places later ≡ places rows = append_of_places u audit rows in
     let valid' = append_is_valid u audit rows kept.valid in
     let more = spawn_keeps_apart w.ticket recs (next_number recs) node worker copies at kept.valid kept.apart free.1 in
     let known = (above_apart rows node kept.valid (allowed rows recs (next_number recs) node copies free.1).1).1 in
-    unmoved w.ticket (spawned w.ticket new) r kept.valid valid' refl still
+    unmoved w.ticket (job_after_spawn w.ticket new) r kept.valid valid' refl still
     (λ x there.
     append_of_rows u audit rows kept.valid known x
     ∙ untouched u _ (row_in rows) x
@@ -137,7 +137,7 @@ spawn_keeps_part w node worker copies at k r kept none at_r out =
 
 -- ---- the laws
 
-ordered_parts : (o : Order) (at : ℕ) (w : Known) (k : ℕ) (r : SpawnRec) → IsKept w → order_refusal o w ≡ None → slice_get w.records k ≡ Some r → is_out r ≡ true → part_for (ordered o at w).next.ticket r ≡ part_for w.ticket r
+ordered_parts : (o : Order) (at : ℕ) (w : State) (k : ℕ) (r : SpawnRec) → IsConsistent w → order_refusal o w ≡ None → slice_get w.records k ≡ Some r → is_out r ≡ true → part_for (allowed_step o at w).next.ticket r ≡ part_for w.ticket r
 ordered_parts (order.Edit e) at w k r kept none there out =
     let free = edit_free e w none in
     edit_keeps_parts w.ticket w.records e at k r kept.valid kept.apart free.rows free.held there out
@@ -145,7 +145,7 @@ ordered_parts (order.Spawn node worker copies) at w k r kept none there out = sp
 ordered_parts (order.Resend s) at w k r kept none there out = refl
 ordered_parts (order.Withdraw s) at w k r kept none there out = refl
 
-parts_either : (refusal : Option Refusal) (o : Order) (at : ℕ) (w : Known) (k : ℕ) (r : SpawnRec) → IsKept w → order_refusal o w ≡ refusal → slice_get w.records k ≡ Some r → is_out r ≡ true → part_for (unless_refused refusal w (ordered o at w)).next.ticket r ≡ part_for w.ticket r
+parts_either : (refusal : Option Refusal) (o : Order) (at : ℕ) (w : State) (k : ℕ) (r : SpawnRec) → IsConsistent w → order_refusal o w ≡ refusal → slice_get w.records k ≡ Some r → is_out r ≡ true → part_for (unless_refused refusal w (allowed_step o at w)).next.ticket r ≡ part_for w.ticket r
 parts_either None o at w k r kept none there out = ordered_parts o at w k r kept none there out
 parts_either (Some e) o at w k r kept refused there out = refl
 
@@ -157,18 +157,18 @@ order_keeps_spawns o at w s r kept found =
 other_place : (recs : List SpawnRec) (j k : ℕ) (q r : SpawnRec) → slice_get recs j ≡ Some q → slice_get recs k ≡ Some r → (r.id ≡ q.id → ⊥) → j ≡ k → ⊥
 other_place recs j k q r at_q at_r other same = other (ap (λ o. option_map_or (λ (s : SpawnRec). s.id) o r.id) (sym at_r ∙ ap (slice_get recs) (sym same) ∙ at_q))
 
-abbrev Stays : Message → ℕ → Known → Known → ℕ → SpawnRec → Type 0
+abbrev Stays : Message → ℕ → State → State → ℕ → SpawnRec → Type 0
 Stays m at w later s r =
     ((is_out r ≡ true) × ((take_step m at w).reply ≡ Ok (reply.Merged s)) × (record_of later.records s ≡ Some (merged_record r)))
     ⊎ (((is_out r ≡ true) × ((take_step m at w).reply ≡ Ok (reply.Freed s)) × (record_of later.records s ≡ Some (withdrawn_record r)))
     ⊎ ((record_of later.records s ≡ Some r) × (is_out r ≡ true → part_for later.ticket r ≡ part_for w.ticket r)))
 
 -- a record, and the part of its spawn, as a part that fits is put in
-put_keeps : (m : Message) (p : Copied) (at : ℕ) (w : Known) (q : SpawnRec) (s : ℕ) (r : SpawnRec)
-    → IsKept w → are_unreserved p.rows ≡ true → Fits w.ticket q p
+put_keeps : (m : Message) (p : PartCopy) (at : ℕ) (w : State) (q : SpawnRec) (s : ℕ) (r : SpawnRec)
+    → IsConsistent w → are_unreserved p.rows ≡ true → Fits w.ticket q p
     → record_of w.records p.spawn_id ≡ Some q → is_out q ≡ true
     → (take_step m at w).reply ≡ Ok (reply.Merged p.spawn_id) → record_of w.records s ≡ Some r
-    → Stays m at w (merged p at w q) s r
+    → Stays m at w (state_after_merge p at w q) s r
 put_keeps m p at w q s r kept free fits found_q out_q told found =
     let place_q = placed (is_of p.spawn_id) w.records q found_q in
     let place = placed (is_of s) w.records r found in
@@ -187,7 +187,7 @@ put_keeps m p at w q s r kept free fits found_q out_q told found =
     ]
 
 -- and as a spawn is withdrawn
-free_keeps : (m : Message) (t at : ℕ) (w : Known) (q : SpawnRec) (s : ℕ) (r : SpawnRec) → IsKept w → record_of w.records t ≡ Some q → is_out q ≡ true → (take_step m at w).reply ≡ Ok (reply.Freed t) → record_of w.records s ≡ Some r → Stays m at w (freed at w q) s r
+free_keeps : (m : Message) (t at : ℕ) (w : State) (q : SpawnRec) (s : ℕ) (r : SpawnRec) → IsConsistent w → record_of w.records t ≡ Some q → is_out q ≡ true → (take_step m at w).reply ≡ Ok (reply.Freed t) → record_of w.records s ≡ Some r → Stays m at w (state_after_withdrawal at w q) s r
 free_keeps m t at w q s r kept found_q out_q told found =
     let place_q = placed (is_of t) w.records q found_q in
     let place = placed (is_of s) w.records r found in
@@ -204,7 +204,7 @@ free_keeps m t at w q s r kept found_q out_q told found =
           ))
     ]
 
-returned_fits : (m : Message) (p : Copied) (w : Known) (q : SpawnRec) → m.body ≡ Return p → take_refusal m w ≡ None → record_of w.records p.spawn_id ≡ Some q → is_out q ≡ true → Fits w.ticket q p
+returned_fits : (m : Message) (p : PartCopy) (w : State) (q : SpawnRec) → m.body ≡ Return p → take_refusal m w ≡ None → record_of w.records p.spawn_id ≡ Some q → is_out q ≡ true → Fits w.ticket q p
 returned_fits m p w q is none found out =
     let there = take_free m w none in
     let same : there.0 ≡ q = same_found there.0 q (record_of w.records p.spawn_id) (ap (λ b. record_of w.records (spawn_in b)) (sym is) ∙ there.1) found in
@@ -213,7 +213,7 @@ returned_fits m p w q is none found out =
 pub message_keeps_spawns : MessageKeepsSpawns
 message_keeps_spawns m at w s r valid kept found =
     elim (message_ends_spawns m at w) [
-      | inl same ↦ inr (inr (ap (λ (v : Known). record_of v.records s) same ∙ found, λ out. ap (λ (v : Known). part_for v.ticket r) same))
+      | inl same ↦ inr (inr (ap (λ (v : State). record_of v.records s) same ∙ found, λ out. ap (λ (v : State). part_for v.ticket r) same))
       | inr ends ↦
           elim ends [
             | inl put' ↦

@@ -16,7 +16,7 @@ use Rattle.ticket_rows.specs.Homes.{has_resource}
 use Rattle.ticket_rows.specs.Place.{Place, is_node, places, place_at}
 use Rattle.ticket_rows.specs.Ticket.{first_of, has_node, unless}
 use Rattle.ticket_tree.proofs.OnPlaces.{stands_node, stands_resource}
-use Rattle.ticket_tree.specs.Part.{Copied}
+use Rattle.ticket_tree.specs.Part.{PartCopy}
 use Rattle.controller.specs.Reply.{spawn_in}
 use Rattle.controller.specs.Step.{unless_refused}
 use Rattle.controller.specs.declared.body.Body.TheVariants.{Return}
@@ -31,9 +31,9 @@ use Rattle.spawn.specs.declared.tables.holder.Holder.{Holder}
 use Rattle.spawn.specs.declared.tables.holder.Holder.TheVariants as held_by
 use Rattle.spawn.proofs.PartKept.{mapped_some}
 use Rattle.merge.specs.Alike.{is_fit}
-use Rattle.master_core.specs.Master.{Known, holder, is_spawn_out, next_number, record_of}
+use Rattle.master_core.specs.Master.{State, holder, is_spawn_out, next_number, record_of}
 use Rattle.master_core.specs.Messages.{body_refusal, is_for_masters, record_refusal, return_refusal, take_refusal}
-use Rattle.master_core.specs.Orders.{edit_refusal, held_refusal, not_held, order_refusal, order_step, ordered}
+use Rattle.master_core.specs.Orders.{allowed_step, edit_refusal, held_refusal, not_held, order_refusal, order_step}
 use Rattle.master_core.specs.declared.order.Order.{Order}
 use Rattle.master_core.specs.declared.order.Order.TheVariants as order
 
@@ -90,12 +90,12 @@ masters None known none = cc
 masters (Some held_by.Master) known none = refl
 masters (Some (held_by.Spawn s)) known none = cc
 
-pub record IsFree (w : Known) (e : Edit) : Type 0 where
+pub record IsFree (w : State) (e : Edit) : Type 0 where
   pub rows : refusal_of e w.ticket.rows ≡ None
   pub held : holder w (target e) ≡ Some held_by.Master
 
 -- an edit that isn't refused isn't by the ticket either, and the master holds its target
-pub edit_free : (e : Edit) (w : Known) → edit_refusal e w ≡ None → IsFree w e
+pub edit_free : (e : Edit) (w : State) → edit_refusal e w ≡ None → IsFree w e
 edit_free e w none =
     let at = lookups w.ticket.rows in
     let parts = three_none (unknown_refusal e at) (not_held w (target e)) (later_refusal e at) none in
@@ -113,7 +113,7 @@ two_none true (Some r) e = cc
 two_none false l e = cc
 
 -- a spawn that isn't refused goes to a worker, and the ticket doesn't refuse it
-pub spawn_free : (w : Known) (node worker : List ℕ) (rw : List (List ℕ)) → order_refusal (order.Spawn node worker rw) w ≡ None
+pub spawn_free : (w : State) (node worker : List ℕ) (rw : List (List ℕ)) → order_refusal (order.Spawn node worker rw) w ≡ None
     → (mem worker w.workers ≡ true) × (spawn_refusal w.ticket.rows w.records (next_number w.records) node rw ≡ None)
 spawn_free w node worker rw none = two_none (mem worker w.workers) (spawn_refusal w.ticket.rows w.records (next_number w.records) node rw) none
 
@@ -122,15 +122,15 @@ only_out true e = refl
 only_out false e = cc
 
 -- what is sent once more, or is to be given up, is out
-pub resend_free : (w : Known) (s : ℕ) → order_refusal (order.Resend s) w ≡ None → is_spawn_out w.records s ≡ true
+pub resend_free : (w : State) (s : ℕ) → order_refusal (order.Resend s) w ≡ None → is_spawn_out w.records s ≡ true
 resend_free w s none = only_out (is_spawn_out w.records s) none
 
-pub withdraw_free : (w : Known) (s : ℕ) → order_refusal (order.Withdraw s) w ≡ None → is_spawn_out w.records s ≡ true
+pub withdraw_free : (w : State) (s : ℕ) → order_refusal (order.Withdraw s) w ≡ None → is_spawn_out w.records s ≡ true
 withdraw_free w s none = only_out (is_spawn_out w.records s) none
 
 -- an order that isn't refused is done
-pub done_order : (o : Order) (at : ℕ) (w : Known) → order_refusal o w ≡ None → order_step o at w ≡ ordered o at w
-done_order o at w free = ap (λ why. unless_refused why w (ordered o at w)) free
+pub done_order : (o : Order) (at : ℕ) (w : State) → order_refusal o w ≡ None → order_step o at w ≡ allowed_step o at w
+done_order o at w free = ap (λ why. unless_refused why w (allowed_step o at w)) free
 
 -- ---- messages
 
@@ -150,7 +150,7 @@ sent_free false l e = cc
 
 -- a message that isn't refused is about a spawn of which there is a record, and isn't refused for
 -- what it says
-pub take_free : (m : Message) (w : Known) → take_refusal m w ≡ None → (r : SpawnRec) × (record_of w.records (spawn_in m.body) ≡ Some r) × (body_refusal m.body w r ≡ None)
+pub take_free : (m : Message) (w : State) → take_refusal m w ≡ None → (r : SpawnRec) × (record_of w.records (spawn_in m.body) ≡ Some r) × (body_refusal m.body w r ≡ None)
 take_free m w none =
     let there = record_there (record_refusal m w) (record_of w.records (spawn_in m.body)) (bytes_eq m.receiver w.name && is_for_masters m.body) none in
     (there.0, there.1, sent_free (bytes_eq m.sender there.0.worker) (body_refusal m.body w there.0) there.2)
@@ -162,5 +162,5 @@ fit_if_out Merged fit e out = cc
 fit_if_out Withdrawn fit e out = cc
 
 -- and a part that comes back fits while its spawn is out
-pub part_free : (p : Copied) (w : Known) (r : SpawnRec) → body_refusal (Return p) w r ≡ None → is_out r ≡ true → is_fit w.ticket r p ≡ true
+pub part_free : (p : PartCopy) (w : State) (r : SpawnRec) → body_refusal (Return p) w r ≡ None → is_out r ≡ true → is_fit w.ticket r p ≡ true
 part_free p w r none out = fit_if_out r.phase (is_fit w.ticket r p) none out

@@ -15,7 +15,7 @@ use Rattle.ticket_items.specs.declared.resource.Resource.{Resource}
 use Rattle.ticket_rows.proofs.Below.{mem-node_ids}
 use Rattle.ticket_rows.specs.Edit.{behind_last, edited_rows, refusal_of}
 use Rattle.ticket_rows.specs.Homes.{has_resource}
-use Rattle.ticket_rows.specs.Place.{Place, Thing, below, fixed, fixed_at, is_node, node_places, nodes_in, parent, place_at, places, up}
+use Rattle.ticket_rows.specs.Place.{Place, Thing, below, is_node, named_thing, named_thing_at, node_places, nodes_in, parent, place_at, places, up}
 use Rattle.ticket_rows.specs.Ticket.{IsValid, has_node, ids}
 use Rattle.ticket_tree.proofs.OnPlaces.{stands_node, stands_resource}
 use Rattle.ticket_tree.proofs.PlainEdits.{edit_of_places}
@@ -174,6 +174,6 @@ good_stands rows r good =
     let changed : list_all (has tree) r.rw ≡ true = ap (list_all (has tree)) good.rw ∙ list_all-map (has tree) (λ (p : Place). p.id) changes ∙ all_kept (λ p. has tree p.id) (λ p. mem p.id r.rw) (linked_outside tree r.node) (outside_has tree r.node) in
     let test : List ℕ × Thing → Bool = λ t. has tree t.0 in
     let read : list_all (λ (x : Resource). has tree x.id) r.ro ≡ true =
-    sym (list_all-map test fixed r.ro) ∙ ap (list_all test) good.ro ∙ list_all-map test fixed_at reads ∙ all_kept (λ p. has tree p.id) (λ p. not (mem p.id r.rw)) (linked_outside tree r.node) (outside_has tree r.node) in
+    sym (list_all-map test named_thing r.ro) ∙ ap (list_all test) good.ro ∙ list_all-map test named_thing_at reads ∙ all_kept (λ p. has tree p.id) (λ p. not (mem p.id r.rw)) (linked_outside tree r.node) (outside_has tree r.node) in
     sym (among_is rows r)
     ∙ and_from (is_some (up (nodes_in tree) r.node) && list_all (has tree) r.rw) (list_all (λ (x : Resource). has tree x.id) r.ro) (and_from (is_some (up (nodes_in tree) r.node)) (list_all (has tree) r.rw) good.has_parent changed) read

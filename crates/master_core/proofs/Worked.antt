@@ -8,7 +8,7 @@ use Rattle.ticket_items.specs.declared.resource.Resource.{Resource}
 use Rattle.ticket_items.specs.declared.usage.Usage.TheVariants.{Input, Output}
 use Rattle.spawn.specs.declared.records.phase.Phase.TheVariants.{Out, Merged}
 use Rattle.spawn.specs.declared.records.spawn_rec.SpawnRec.{SpawnRec}
-use Rattle.master_core.specs.Master.{Known}
+use Rattle.master_core.specs.Master.{State}
 use Rattle.master_core.specs.Stored.{is_master}
 
 abbrev paper : Resource
@@ -33,7 +33,7 @@ first = record { id = 1; node = codes "n2"; worker = codes "bind"; at = 100; rw 
 abbrev second : SpawnRec
 second = record { id = 2; node = codes "n1"; worker = codes "press"; at = 110; rw = codes "r2" ∷ []; ro = paper ∷ []; phase = Out }
 
-abbrev office : List SpawnRec → Known
+abbrev office : List SpawnRec → State
 office records =
     record { name = codes "mis"; workers = codes "press" ∷ codes "bind" ∷ []; ticket = record { job_id = codes "J1"; rows = rows }; records = records }
 

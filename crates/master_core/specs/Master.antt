@@ -17,14 +17,14 @@ use Rattle.spawn.specs.declared.tables.holder.Holder.{Holder}
 
 -- what a master knows: its name, its workers', its ticket, and the records of its spawns in the
 -- order in which they went out
-pub record Known : Type 0 where
+pub record State : Type 0 where
   pub name : List ℕ
   pub workers : List (List ℕ)
   pub ticket : Job
   pub records : List SpawnRec
 
-abbrev pub known : List ℕ → List (List ℕ) → Job → List SpawnRec → Known
-known name workers ticket records =
+abbrev pub state : List ℕ → List (List ℕ) → Job → List SpawnRec → State
+state name workers ticket records =
     record { name = name; workers = workers; ticket = ticket; records = records }
 
 -- ---- records
@@ -71,11 +71,11 @@ with_withdrawn s records = with_phase Withdrawn s records
 -- ---- who holds what
 
 -- who holds an id: a spawn that is out, or the master. One that isn't in the ticket has no holder
-abbrev pub holder : Known → List ℕ → Option Holder
+abbrev pub holder : State → List ℕ → Option Holder
 holder w x = holder_of w.ticket.rows w.records x
 
 -- whether the master may change a node or a resource: it holds it
-abbrev pub may_change : Known → List ℕ → Bool
+abbrev pub may_change : State → List ℕ → Bool
 may_change w x = option_map_or is_masters (holder w x) false
 
 -- ---- what always holds
@@ -88,7 +88,7 @@ IsNumbered records = (k : ℕ) (r : SpawnRec) → slice_get records k ≡ Some r
 -- to a worker, and its node and the resources of its copies stand in the ticket, also once it is
 -- merged or withdrawn; and they stand well beside the ticket: each that is out is good, and no two
 -- of those claim one thing
-pub record IsKept (w : Known) : Type 0 where
+pub record IsConsistent (w : State) : Type 0 where
   pub names : are_distinct (w.name ∷ w.workers) ≡ true
   pub valid : IsValid w.ticket.rows
   pub numbered : IsNumbered w.records
@@ -97,6 +97,6 @@ pub record IsKept (w : Known) : Type 0 where
   pub apart : StandApart w.ticket.rows w.records
 
 -- all that, and the table of holders beside it is that of the ticket and the records
-pub record IsInStep (w : Known) (h : Holdings) : Type 0 where
-  pub kept : IsKept w
+pub record IsInStep (w : State) (h : Holdings) : Type 0 where
+  pub kept : IsConsistent w
   pub table : IsTable w.ticket.rows w.records h

@@ -11,9 +11,9 @@ use Rattle.ticket_items.specs.declared.refusal.Refusal.TheVariants.{WrongMessage
 use Rattle.ticket_items.specs.declared.refusal.Refusal.TheVariants.{WrongSender, WrongShape}
 use Rattle.ticket_rows.specs.Copies.{with_copies}
 use Rattle.ticket_rows.specs.Ticket.{IsValid, first_of, unless}
-use Rattle.ticket_tree.specs.Part.{Copied}
+use Rattle.ticket_tree.specs.Part.{PartCopy}
 use Rattle.controller.specs.Reply.{spawn_in}
-use Rattle.controller.specs.Step.{Step, Taking, answering}
+use Rattle.controller.specs.Step.{Step, Taking, message_step}
 use Rattle.controller.specs.declared.body.Body.{Body}
 use Rattle.controller.specs.declared.body.Body.TheVariants.{Submit, Return, Abort, Answer}
 use Rattle.controller.specs.declared.command.Command.{Command}
@@ -28,8 +28,8 @@ use Rattle.spawn.specs.declared.records.phase.Phase.TheVariants.{Out, Merged, Wi
 use Rattle.spawn.specs.declared.records.spawn_rec.SpawnRec.{SpawnRec}
 use Rattle.merge.specs.Alike.{is_fit}
 use Rattle.merge.specs.Put.{put}
-use Rattle.merge.specs.Withdrawal.{withdrawn}
-use Rattle.master_core.specs.Master.{Known, record_of, with_merged, with_withdrawn}
+use Rattle.merge.specs.Withdrawal.{job_after_withdrawal}
+use Rattle.master_core.specs.Master.{State, record_of, with_merged, with_withdrawn}
 
 -- ---- refusals
 
@@ -46,7 +46,7 @@ abbrev pub is_for_masters : Body → Bool
 is_for_masters (Submit p) = false
 is_for_masters (Return p) = true
 is_for_masters (Abort s) = false
-is_for_masters (Answer c s told) = is_of_masters c
+is_for_masters (Answer c s response) = is_of_masters c
 
 -- why a part that comes back is refused, if it is, by the phase of its spawn and whether it fits:
 -- it has to fit while the spawn is out, isn't looked at once that is merged, and isn't wanted once
@@ -57,19 +57,19 @@ return_refusal Merged fits = None
 return_refusal Withdrawn fits = Some NotOut
 
 -- why what a message says of a spawn is refused, if it is
-abbrev pub body_refusal : Body → Known → SpawnRec → Option Refusal
+abbrev pub body_refusal : Body → State → SpawnRec → Option Refusal
 body_refusal (Submit p) w r = None
 body_refusal (Return p) w r = return_refusal r.phase (is_fit w.ticket r p)
 body_refusal (Abort s) w r = None
-body_refusal (Answer c s told) w r = None
+body_refusal (Answer c s response) w r = None
 
 -- why a message about a spawn is refused, if it is: it has to come from the spawn's worker
-abbrev pub record_refusal : Message → Known → SpawnRec → Option Refusal
+abbrev pub record_refusal : Message → State → SpawnRec → Option Refusal
 record_refusal m w r =
     first_of (unless (bytes_eq m.sender r.worker) WrongSender ∷ body_refusal m.body w r ∷ [])
 
 -- why a message is refused, if it is
-abbrev pub take_refusal : Message → Known → Option Refusal
+abbrev pub take_refusal : Message → State → Option Refusal
 take_refusal m w =
     first_of
     (unless (bytes_eq m.receiver w.name && is_for_masters m.body) WrongMessage
@@ -83,28 +83,28 @@ abbrev pub IsValidBody : Body → Type 0
 IsValidBody (Submit p) = ⊤
 IsValidBody (Return p) = IsValid (with_copies p.rows p.rw p.ro)
 IsValidBody (Abort s) = ⊤
-IsValidBody (Answer c s told) = ⊤
+IsValidBody (Answer c s response) = ⊤
 
 -- the master once a part of a spawn that is out is put in at a time
-abbrev pub merged : Copied → ℕ → Known → SpawnRec → Known
-merged p at w r =
+abbrev pub state_after_merge : PartCopy → ℕ → State → SpawnRec → State
+state_after_merge p at w r =
     record w { ticket = put w.ticket r p at; records = with_merged r.id w.records }
 
 -- the master once a spawn that is out is withdrawn at a time
-abbrev pub freed : ℕ → Known → SpawnRec → Known
-freed at w r =
-    record w { ticket = withdrawn w.ticket r at; records = with_withdrawn r.id w.records }
+abbrev pub state_after_withdrawal : ℕ → State → SpawnRec → State
+state_after_withdrawal at w r =
+    record w { ticket = job_after_withdrawal w.ticket r at; records = with_withdrawn r.id w.records }
 
 -- whether the answer to a command tells that its taker declines a spawn that it hasn't begun
 abbrev pub is_declined : Command → Result QueueStatus ℕ → Bool
-is_declined command.Submit told = false
-is_declined command.Return told = false
+is_declined command.Submit response = false
+is_declined command.Return response = false
 is_declined command.Abort (Ok status) = false
 is_declined command.Abort (Err reason) = reason == number_of Declined
 
 -- the Status of the queue entry of a part that came back: how the work on it ended, as the Status
 -- of its node says
-abbrev pub end_of_part : Copied → QueueStatus
+abbrev pub end_of_part : PartCopy → QueueStatus
 end_of_part p =
     if option_map_or (λ r. bytes_eq r.status (codes "Aborted")) (slice_get p.rows 0) false
     then queue.Aborted else queue.Completed
@@ -112,47 +112,47 @@ end_of_part p =
 -- ---- what comes of a message that isn't refused
 
 -- a part of a spawn that is out comes back: it is put in
-abbrev pub merging : Copied → ℕ → Known → SpawnRec → Taking Known
-merging p at w r =
+abbrev pub merge_taking : PartCopy → ℕ → State → SpawnRec → Taking State
+merge_taking p at w r =
     record {
       reply = reply.Merged p.spawn_id;
-      told = Ok (end_of_part p);
-      next = merged p at w r;
+      response = Ok (end_of_part p);
+      next = state_after_merge p at w r;
     }
 
 -- a part that was put in before comes back once more
-abbrev pub already : Copied → Known → Taking Known
-already p w =
-    record { reply = reply.Already p.spawn_id; told = Ok (end_of_part p); next = w }
+abbrev pub repeat_taking : PartCopy → State → Taking State
+repeat_taking p w =
+    record { reply = reply.Already p.spawn_id; response = Ok (end_of_part p); next = w }
 
 -- the worker of a spawn that is out declines it: it is withdrawn
-abbrev pub freeing : ℕ → ℕ → Known → SpawnRec → Taking Known
-freeing s at w r =
-    record { reply = reply.Freed s; told = Ok queue.Completed; next = freed at w r }
+abbrev pub withdrawal_taking : ℕ → ℕ → State → SpawnRec → Taking State
+withdrawal_taking s at w r =
+    record { reply = reply.Freed s; response = Ok queue.Completed; next = state_after_withdrawal at w r }
 
 -- what tells of a spawn is noted alone
-abbrev pub noted : ℕ → Known → Taking Known
-noted s w = record { reply = reply.Noted s; told = Ok queue.Completed; next = w }
+abbrev pub note_taking : ℕ → State → Taking State
+note_taking s w = record { reply = reply.Noted s; response = Ok queue.Completed; next = w }
 
 -- what comes of the record of a spawn, where it was found and is out, and what comes of it else
-abbrev pub while_out : (SpawnRec → Taking Known) → Taking Known → Option SpawnRec → Taking Known
+abbrev pub while_out : (SpawnRec → Taking State) → Taking State → Option SpawnRec → Taking State
 while_out made other found = option_map_or (λ r. if is_out r then made r else other) found other
 
 -- a part comes back
-abbrev pub returned : Copied → ℕ → Known → Taking Known
-returned p at w = while_out (merging p at w) (already p w) (record_of w.records p.spawn_id)
+abbrev pub on_return : PartCopy → ℕ → State → Taking State
+on_return p at w = while_out (merge_taking p at w) (repeat_taking p w) (record_of w.records p.spawn_id)
 
 -- the worker of a spawn declines it
-abbrev pub declined : ℕ → ℕ → Known → Taking Known
-declined s at w = while_out (freeing s at w) (noted s w) (record_of w.records s)
+abbrev pub on_decline : ℕ → ℕ → State → Taking State
+on_decline s at w = while_out (withdrawal_taking s at w) (note_taking s w) (record_of w.records s)
 
 -- what comes of a message at a time that isn't refused, by what it says
-abbrev pub taken : Body → ℕ → Known → Taking Known
-taken (Submit p) at w = noted p.spawn_id w
-taken (Return p) at w = returned p at w
-taken (Abort s) at w = noted s w
-taken (Answer c s told) at w = if is_declined c told then declined s at w else noted s w
+abbrev pub on_body : Body → ℕ → State → Taking State
+on_body (Submit p) at w = note_taking p.spawn_id w
+on_body (Return p) at w = on_return p at w
+on_body (Abort s) at w = note_taking s w
+on_body (Answer c s response) at w = if is_declined c response then on_decline s at w else note_taking s w
 
 -- the master's step on a message at a time
-abbrev pub take_step : Message → ℕ → Known → Step Known Message
-take_step m at w = answering w.name m at (take_refusal m w) w (taken m.body at w)
+abbrev pub take_step : Message → ℕ → State → Step State Message
+take_step m at w = message_step w.name m at (take_refusal m w) w (on_body m.body at w)

@@ -7,7 +7,7 @@ use Rattle.ticket_items.specs.declared.edit.Edit.{Edit}
 use Rattle.ticket_items.specs.declared.refusal.Refusal.{Refusal}
 use Rattle.ticket_items.specs.declared.refusal.Refusal.TheVariants.{NotHeld, NotOut, UnknownWorker}
 use Rattle.ticket_items.specs.Edit.{target}
-use Rattle.ticket_rows.specs.Edit.{edited, lookups}
+use Rattle.ticket_rows.specs.Edit.{job_after_edit, lookups}
 use Rattle.ticket_rows.specs.EditRefusal.{later_refusal, unknown_refusal}
 use Rattle.ticket_rows.specs.Ticket.{Job, first_of, unless}
 use Rattle.controller.specs.Step.{Makes, Step, unless_refused}
@@ -16,13 +16,13 @@ use Rattle.controller.specs.declared.done.Done.{Done}
 use Rattle.controller.specs.declared.message.Message.{Message}
 use Rattle.controller.specs.declared.reply.Reply.TheVariants as reply
 use Rattle.spawn.specs.Parts.{part_for}
-use Rattle.spawn.specs.Spawning.{new_record, spawn_refusal, spawned}
+use Rattle.spawn.specs.Spawning.{job_after_spawn, new_record, spawn_refusal}
 use Rattle.spawn.specs.declared.records.spawn_rec.SpawnRec.{SpawnRec}
 use Rattle.spawn.specs.declared.tables.holder.Holder.{Holder}
 use Rattle.spawn.specs.declared.tables.holder.Holder.TheVariants as held_by
 use Rattle.master_core.specs.declared.order.Order.{Order}
 use Rattle.master_core.specs.declared.order.Order.TheVariants as order
-use Rattle.master_core.specs.Master.{Known, holder, is_spawn_out, next_number, record_of}
+use Rattle.master_core.specs.Master.{State, holder, is_spawn_out, next_number, record_of}
 
 -- ---- refusals
 
@@ -32,19 +32,19 @@ held_refusal held_by.Master = None
 held_refusal (held_by.Spawn s) = Some (NotHeld s)
 
 -- why the master can't change what has an id, if it can't
-abbrev pub not_held : Known → List ℕ → Option Refusal
+abbrev pub not_held : State → List ℕ → Option Refusal
 not_held w x = option_map_or held_refusal (holder w x) None
 
 -- why an edit is refused, if it is: what isn't there comes first, then who holds its target, and
 -- then all else
-abbrev pub edit_refusal : Edit → Known → Option Refusal
+abbrev pub edit_refusal : Edit → State → Option Refusal
 edit_refusal e w =
     first_of
     (unknown_refusal e (lookups w.ticket.rows) ∷ not_held w (target e)
     ∷ later_refusal e (lookups w.ticket.rows) ∷ [])
 
 -- why an order is refused, if it is
-abbrev pub order_refusal : Order → Known → Option Refusal
+abbrev pub order_refusal : Order → State → Option Refusal
 order_refusal (order.Edit e) w = edit_refusal e w
 order_refusal (order.Spawn node worker rw) w =
     first_of
@@ -65,51 +65,51 @@ abbrev pub abort_of : List ℕ → SpawnRec → Message
 abort_of name r = record { sender = name; receiver = r.worker; at = r.at; body = Abort r.id }
 
 -- the spawn whose part an order sends out
-abbrev pub spawn_sent : Order → Known → Option ℕ
+abbrev pub spawn_sent : Order → State → Option ℕ
 spawn_sent (order.Edit e) w = None
 spawn_sent (order.Spawn node worker rw) w = Some (next_number w.records)
 spawn_sent (order.Resend s) w = Some s
 spawn_sent (order.Withdraw s) w = None
 
 -- the spawn whose worker an order asks to give it up
-abbrev pub spawn_asked : Order → Option ℕ
-spawn_asked (order.Edit e) = None
-spawn_asked (order.Spawn node worker rw) = None
-spawn_asked (order.Resend s) = None
-spawn_asked (order.Withdraw s) = Some s
+abbrev pub spawn_to_give_up : Order → Option ℕ
+spawn_to_give_up (order.Edit e) = None
+spawn_to_give_up (order.Spawn node worker rw) = None
+spawn_to_give_up (order.Resend s) = None
+spawn_to_give_up (order.Withdraw s) = Some s
 
 -- ---- the step
 
 -- the record of the next spawn
-abbrev pub next_record : Known → List ℕ → List ℕ → List (List ℕ) → ℕ → SpawnRec
+abbrev pub next_record : State → List ℕ → List ℕ → List (List ℕ) → ℕ → SpawnRec
 next_record w node worker rw at =
     new_record w.ticket.rows (next_number w.records) node worker rw at
 
 -- the step that spawns by a record, which is new
-abbrev pub spawning : SpawnRec → Known → Step Known Message
-spawning r w =
+abbrev pub spawn_step : SpawnRec → State → Step State Message
+spawn_step r w =
     record {
       reply = Ok (reply.Spawned r.id);
-      sent = Some (submit_of w.name (spawned w.ticket r) r);
-      next = record w { ticket = spawned w.ticket r; records = w.records ++ r ∷ [] };
+      sent = Some (submit_of w.name (job_after_spawn w.ticket r) r);
+      next = record w { ticket = job_after_spawn w.ticket r; records = w.records ++ r ∷ [] };
     }
 
 -- the master's step on an order at a time that isn't refused
-abbrev pub ordered : Order → ℕ → Known → Step Known Message
-ordered (order.Edit e) at w =
+abbrev pub allowed_step : Order → ℕ → State → Step State Message
+allowed_step (order.Edit e) at w =
     record {
       reply = Ok reply.Edited;
       sent = None;
-      next = record w { ticket = edited e at w.ticket };
+      next = record w { ticket = job_after_edit e at w.ticket };
     }
-ordered (order.Spawn node worker rw) at w = spawning (next_record w node worker rw at) w
-ordered (order.Resend s) at w =
+allowed_step (order.Spawn node worker rw) at w = spawn_step (next_record w node worker rw at) w
+allowed_step (order.Resend s) at w =
     record {
       reply = Ok (reply.Sent s);
       sent = option_map (submit_of w.name w.ticket) (record_of w.records s);
       next = w;
     }
-ordered (order.Withdraw s) at w =
+allowed_step (order.Withdraw s) at w =
     record {
       reply = Ok (reply.Asked s);
       sent = option_map (abort_of w.name) (record_of w.records s);
@@ -117,9 +117,9 @@ ordered (order.Withdraw s) at w =
     }
 
 -- the master's step on an order at a time
-abbrev pub order_step : Order → ℕ → Known → Step Known Message
-order_step o at w = unless_refused (order_refusal o w) w (ordered o at w)
+abbrev pub order_step : Order → ℕ → State → Step State Message
+order_step o at w = unless_refused (order_refusal o w) w (allowed_step o at w)
 
 -- a master makes the step of an order at a time: with this result, and it is then this
-abbrev pub Does : Order → ℕ → Known → Result Done Refusal → Known → Type 0
+abbrev pub Does : Order → ℕ → State → Result Done Refusal → State → Type 0
 Does o at old result new = Makes (order_step o at old) old result new

@@ -6,7 +6,7 @@ use Rattle.ticket_rows.specs.Place.{places}
 use Rattle.ticket_rows.specs.Ticket.{Job}
 use Rattle.spawn.specs.Stored.{are_apart, are_good, stands_in}
 use Rattle.spawn.specs.declared.records.spawn_rec.SpawnRec.{SpawnRec}
-use Rattle.master_core.specs.Master.{IsKept, Known}
+use Rattle.master_core.specs.Master.{IsConsistent, State}
 
 -- whether records are numbered from a number on, in their order
 abbrev pub are_numbered : ℕ → List SpawnRec → Bool
@@ -26,11 +26,11 @@ are_recorded t records =
 
 -- whether this can be a master: no two names are equal, its records are numbered from 1 on, each
 -- spawn went to a worker, and they are records of its ticket
-abbrev pub is_master : Known → Bool
+abbrev pub is_master : State → Bool
 is_master w =
     are_distinct (w.name ∷ w.workers) && are_numbered 1 w.records && are_sent w.workers w.records
     && are_recorded w.ticket w.records
 
 -- a master of which all holds that always does can be one
 abbrev pub AKeptMasterIsStored : Type 0
-AKeptMasterIsStored = (w : Known) → IsKept w → is_master w ≡ true
+AKeptMasterIsStored = (w : State) → IsConsistent w → is_master w ≡ true

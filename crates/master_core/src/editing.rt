@@ -24,7 +24,7 @@ fn held_refusal(holder: Holder) -> Option<Refusal>
 /// Does an edit that nothing is against, at a time.
 fn apply_held(alloc: Global, ticket: &mut Ticket, edit: Edit, at: u64) -> Result<(), Refusal>
     requires { edits.refusal_of edit ticket.old.rows ≡ None }
-    ensures ok { OnOk result (ticket.new ≡ edits.edited edit at ticket.old) }
+    ensures ok { OnOk result (ticket.new ≡ edits.job_after_edit edit at ticket.old) }
     ensures err { OnErr result (ticket.new ≡ ticket.old) }
     ensures memory { IfErr result (λ e. e ≡ Refusal.Memory) }
 {

@@ -14,7 +14,7 @@ impl Master {
     /// Frees a spawn that its worker declines: where it is out it is withdrawn, at a time, and the
     /// master then holds what it claimed.
     pub(crate) fn free(&mut self, alloc: Global, spawn: SpawnId, at: u64) -> Result<(), AllocError>
-        ensures ok { OnOk result (self.new ≡ (messages.declined spawn at self.old).next) }
+        ensures ok { OnOk result (self.new ≡ (messages.on_decline spawn at self.old).next) }
         ensures err { OnErr result (self.new ≡ self.old) }
         ensures idle { masters.is_spawn_out self.old.records spawn ≡ false → IsOk result }
     {

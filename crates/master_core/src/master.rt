@@ -20,14 +20,14 @@ pub struct Master {
 }
 
 impl Model for Master {
-    ghost use Rattle.master_core.specs.Master.{IsInStep, Known, known};
+    ghost use Rattle.master_core.specs.Master.{IsInStep, State, state};
 
-    ghost Value = { Known };
+    ghost Value = { State };
 
-    ghost view = { λ a. known a.name a.workers a.ticket a.records.items };
+    ghost view = { λ a. state a.name a.workers a.ticket a.records.items };
 
     ghost invariant = { λ a.
-        IsInStep (known a.name a.workers a.ticket a.records.items) a.holders };
+        IsInStep (state a.name a.workers a.ticket a.records.items) a.holders };
 }
 
 impl Master {
@@ -38,7 +38,7 @@ impl Master {
     ghost use Rattle.controller.specs.Step.{done_step, outcome_step};
     ghost use Rattle.spawn.specs.Marking as marking;
     ghost use Rattle.master_core.specs.Master as master;
-    ghost use Rattle.master_core.specs.Master.{IsKept};
+    ghost use Rattle.master_core.specs.Master.{IsConsistent};
     ghost use Rattle.master_core.specs.Messages as messages;
     ghost use Rattle.master_core.specs.Orders as orders;
     ghost use Rattle.master_core.specs.Stored as stored;
@@ -49,8 +49,8 @@ impl Master {
         // Proved: A master begins with no record; distinct names are refused for want of memory
         // alone.
         // By `ok`, `kept`, `refused`, `memory`, `only`; `are_apart`.
-        ensures ok { IfOk result (λ m. m ≡ master.known name workers ticket []) }
-        ensures kept { IfOk result (λ m. IsKept m) }
+        ensures ok { IfOk result (λ m. m ≡ master.state name workers ticket []) }
+        ensures kept { IfOk result (λ m. IsConsistent m) }
         ensures refused { IsErrOf result Refusal.SameName → are_distinct (name ∷ workers) ≡ false }
         ensures memory { are_distinct (name ∷ workers) ≡ true
             → IfErr result (λ e. e ≡ Refusal.Memory) }
@@ -84,13 +84,13 @@ impl Master {
     ) -> Result<Master, Refusal>
         // Proved: Stored parts are taken just if some master could have them.
         // By `ok`, `kept`, `taken`, `refused`, `memory`, `only`; `laws::a_kept_master_is_stored`.
-        ensures ok { IfOk result (λ m. m ≡ master.known name workers ticket records.items) }
-        ensures kept { IfOk result (λ m. IsKept m) }
+        ensures ok { IfOk result (λ m. m ≡ master.state name workers ticket records.items) }
+        ensures kept { IfOk result (λ m. IsConsistent m) }
         ensures taken { OnOk result
-            (stored.is_master (master.known name workers ticket records.items) ≡ true) }
+            (stored.is_master (master.state name workers ticket records.items) ≡ true) }
         ensures refused { IsErrOf result Refusal.BadState
-            → stored.is_master (master.known name workers ticket records.items) ≡ false }
-        ensures memory { stored.is_master (master.known name workers ticket records.items) ≡ true
+            → stored.is_master (master.state name workers ticket records.items) ≡ false }
+        ensures memory { stored.is_master (master.state name workers ticket records.items) ≡ true
             → IfErr result (λ e. e ≡ Refusal.Memory) }
         ensures only { IfErr result (λ e. (e ≡ Refusal.BadState) ⊎ (e ≡ Refusal.Memory)) }
     {
@@ -144,7 +144,7 @@ impl Master {
         // good and apart.
         // By `records`, `kept`; `master::Master::name`, `Master::workers`, `Master::ticket`.
         ensures records { result.now ≡ self.now.records }
-        ensures kept { IsKept self.now }
+        ensures kept { IsConsistent self.now }
     {
         self.records.as_slice()
     }
@@ -226,7 +226,7 @@ impl Master {
             → IfOk (messages.take_step message at self.old).reply (λ r. is_freed r ≡ false)
             → IsOk result }
     {
-        let taken = self.judged(&message);
+        let taken = self.checked_taken(&message);
         let refused = taken.is_err();
         let outcome = outcome_of(alloc, self.name(), &message, at, taken)?;
         if refused {

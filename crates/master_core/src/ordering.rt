@@ -38,7 +38,7 @@ impl Master {
     ) -> Result<Done, Refusal>
         requires { mem worker self.old.workers ≡ true }
         ensures ok { IfOk result (λ done. done_step done self.new
-            ≡ orders.ordered (Order.Spawn node worker rw) at self.old) }
+            ≡ orders.allowed_step (Order.Spawn node worker rw) at self.old) }
         ensures err { OnErr result (self.new ≡ self.old) }
         ensures refused { IfSome (spawn_refusal self.old.ticket.rows self.old.records
             (master.next_number self.old.records) node rw) (λ e. result ≡ Err e) }
@@ -126,7 +126,7 @@ impl Master {
     fn record_out(&self, spawn: SpawnId) -> Result<&SpawnRec, Refusal>
         ensures found { IfOk result (λ r. (is_out r.now ≡ true)
             × (master.record_of self.now.records spawn ≡ Some r.now)) }
-        ensures kept { master.IsKept self.now }
+        ensures kept { master.IsConsistent self.now }
         ensures refused { IfErr result (λ e. (e ≡ Refusal.NotOut)
             × (master.is_spawn_out self.now.records spawn ≡ false)) }
     {

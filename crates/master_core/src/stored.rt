@@ -62,9 +62,9 @@ pub fn holders_of(
     records: &[SpawnRec],
 ) -> Result<Option<Holders>, AllocError>
     ensures test { IfOk result (λ found. is_some found
-        ≡ stored.is_master (master.known name.now workers.now ticket.now records.now)) }
+        ≡ stored.is_master (master.state name.now workers.now ticket.now records.now)) }
     ensures kept { IfOk result (λ found. IfSome found
-        (λ h. IsInStep (master.known name.now workers.now ticket.now records.now) h)) }
+        (λ h. IsInStep (master.state name.now workers.now ticket.now records.now) h)) }
 {
     if !are_numbered(records) || !are_sent(workers, records) {
         return Ok(None);

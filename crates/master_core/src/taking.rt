@@ -2,7 +2,7 @@
 
 ghost use Rattle.std.specs.Prelude.{◌≡◌, ℕ, true, false, OnOk, OnErr};
 ghost use Rattle.std.specs.Prelude.{IsOk, Ok, Some, None, is_err, is_some};
-ghost use Rattle.ticket_tree.specs.Part.{Copied};
+ghost use Rattle.ticket_tree.specs.Part.{PartCopy};
 ghost use Rattle.controller.specs.Reply as replies;
 ghost use Rattle.controller.specs.Step as steps;
 ghost use Rattle.spawn.specs.Records.{is_out};
@@ -55,10 +55,10 @@ fn return_refusal(ticket: &Ticket, spawn: &SpawnRec, part: &Part) -> Option<Refu
 }
 
 /// Whether the answer to a command tells that its taker declines a spawn that it hasn't begun.
-fn is_declined(asked: Command, told: Result<QueueStatus, u16>) -> bool
-    ensures { result ≡ messages.is_declined asked told }
+fn is_declined(asked: Command, response: Result<QueueStatus, u16>) -> bool
+    ensures { result ≡ messages.is_declined asked response }
 {
-    match (asked, told) {
+    match (asked, response) {
         (Command::Submit, _) => false,
         (Command::Return, _) => false,
         (Command::Abort, Ok(_)) => false,
@@ -83,13 +83,13 @@ fn end_of_part(part: &Part) -> QueueStatus
 }
 
 /// What it is taken as that tells of a spawn and changes nothing.
-fn noted(spawn: SpawnId) -> Taken
+fn note_taken(spawn: SpawnId) -> Taken
     ensures reply { result.reply ≡ Reply.Noted spawn }
-    ensures told { result.told ≡ Ok QueueStatus.Completed }
+    ensures response { result.response ≡ Ok QueueStatus.Completed }
 {
     Taken {
         reply: Reply::Noted(spawn),
-        told: Ok(QueueStatus::Completed),
+        response: Ok(QueueStatus::Completed),
     }
 }
 
@@ -126,8 +126,9 @@ impl Master {
 
     /// What a part that comes back is taken as: it is put in while its spawn is out, or was before.
     fn part_taken(&self, part: &Part) -> Taken
-        ensures reply { (at : ℕ) → result.reply ≡ (messages.returned part.now at self.now).reply }
-        ensures told { (at : ℕ) → result.told ≡ (messages.returned part.now at self.now).told }
+        ensures reply { (at : ℕ) → result.reply ≡ (messages.on_return part.now at self.now).reply }
+        ensures response { (at : ℕ) → result.response
+            ≡ (messages.on_return part.now at self.now).response }
     {
         let spawn_id = part.spawn_id();
         let reply = if is_spawn_out(self.records(), spawn_id) {
@@ -137,23 +138,24 @@ impl Master {
         };
         Taken {
             reply,
-            told: Ok(end_of_part(part)),
+            response: Ok(end_of_part(part)),
         }
     }
 
     /// What it is taken as that the worker of a spawn declines it: the spawn is freed while it is
     /// out.
-    fn declined(&self, spawn: SpawnId) -> Taken
-        ensures reply { (at : ℕ) → result.reply ≡ (messages.declined spawn at self.now).reply }
-        ensures told { (at : ℕ) → result.told ≡ (messages.declined spawn at self.now).told }
+    fn decline_taken(&self, spawn: SpawnId) -> Taken
+        ensures reply { (at : ℕ) → result.reply ≡ (messages.on_decline spawn at self.now).reply }
+        ensures response { (at : ℕ) → result.response
+            ≡ (messages.on_decline spawn at self.now).response }
     {
         if is_spawn_out(self.records(), spawn) {
             Taken {
                 reply: Reply::Freed(spawn),
-                told: Ok(QueueStatus::Completed),
+                response: Ok(QueueStatus::Completed),
             }
         } else {
-            noted(spawn)
+            note_taken(spawn)
         }
     }
 
@@ -161,34 +163,35 @@ impl Master {
     /// memory.
     pub fn taken_as(&self, body: &Body) -> Taken
         // Proved: What a message is taken as, and what its command is told, is told before.
-        // By `reply`, `told`.
-        ensures reply { (at : ℕ) → result.reply ≡ (messages.taken body.now at self.now).reply }
-        ensures told { (at : ℕ) → result.told ≡ (messages.taken body.now at self.now).told }
+        // By `reply`, `response`.
+        ensures reply { (at : ℕ) → result.reply ≡ (messages.on_body body.now at self.now).reply }
+        ensures response { (at : ℕ) → result.response
+            ≡ (messages.on_body body.now at self.now).response }
     {
         match body {
-            Body::Submit(part) => noted(part.spawn_id()),
+            Body::Submit(part) => note_taken(part.spawn_id()),
             Body::Return(part) => self.part_taken(part),
-            Body::Abort(spawn_id) => noted(*spawn_id),
+            Body::Abort(spawn_id) => note_taken(*spawn_id),
             Body::Answer {
                 of,
                 spawn_id,
                 result,
             } => {
                 if is_declined(*of, *result) {
-                    self.declined(*spawn_id)
+                    self.decline_taken(*spawn_id)
                 } else {
-                    noted(*spawn_id)
+                    note_taken(*spawn_id)
                 }
             }
         }
     }
 
     /// What a message is taken as, or why it is refused.
-    pub(crate) fn judged(&self, message: &Message) -> Result<Taken, Refusal>
+    pub(crate) fn checked_taken(&self, message: &Message) -> Result<Taken, Refusal>
         ensures reply { (at : ℕ) → steps.reply_of result
             ≡ (messages.take_step message.now at self.now).reply }
         ensures answer { (at : ℕ) →
-            replies.answer_to self.now.name message.now at (steps.told_of result)
+            replies.answer_to self.now.name message.now at (steps.response_of result)
             ≡ (messages.take_step message.now at self.now).sent }
         ensures refused { is_err result
             ≡ is_some (messages.take_refusal message.now self.now) }
@@ -204,7 +207,7 @@ impl Master {
     fn take_part(&mut self, alloc: Global, part: Part, at: u64) -> Result<(), AllocError>
         requires { (r : SpawnRec) → masters.record_of self.old.records part.spawn_id ≡ Some r
             → is_out r ≡ true → alike.is_fit self.old.ticket r part ≡ true }
-        ensures ok { OnOk result (self.new ≡ (messages.returned part at self.old).next) }
+        ensures ok { OnOk result (self.new ≡ (messages.on_return part at self.old).next) }
         ensures err { OnErr result (self.new ≡ self.old) }
     {
         let spawn = part.spawn_id();
@@ -223,17 +226,17 @@ impl Master {
         alloc: Global,
         asked: Command,
         spawn: SpawnId,
-        told: Result<QueueStatus, u16>,
+        response: Result<QueueStatus, u16>,
         at: u64,
     ) -> Result<(), AllocError>
         ensures ok { OnOk result
-            (self.new ≡ (messages.taken (Body.Answer asked spawn told) at self.old).next) }
+            (self.new ≡ (messages.on_body (Body.Answer asked spawn response) at self.old).next) }
         ensures err { OnErr result (self.new ≡ self.old) }
         ensures noted { replies.is_freed
-            (messages.taken (Body.Answer asked spawn told) at self.old).reply ≡ false
+            (messages.on_body (Body.Answer asked spawn response) at self.old).reply ≡ false
             → IsOk result }
     {
-        if is_declined(asked, told) {
+        if is_declined(asked, response) {
             self.free(alloc, spawn, at)
         } else {
             Ok(())
@@ -243,13 +246,13 @@ impl Master {
     /// Takes what a message says that isn't refused. An answer takes no memory unless it frees a
     /// spawn.
     pub(crate) fn take_body(&mut self, alloc: Global, body: Body, at: u64) -> Result<(), AllocError>
-        requires { (p : Copied) (r : SpawnRec) → body ≡ Body.Return p
+        requires { (p : PartCopy) (r : SpawnRec) → body ≡ Body.Return p
             → masters.record_of self.old.records p.spawn_id ≡ Some r → is_out r ≡ true
             → alike.is_fit self.old.ticket r p ≡ true }
-        ensures ok { OnOk result (self.new ≡ (messages.taken body at self.old).next) }
+        ensures ok { OnOk result (self.new ≡ (messages.on_body body at self.old).next) }
         ensures err { OnErr result (self.new ≡ self.old) }
         ensures answers { replies.is_answer body ≡ true
-            → replies.is_freed (messages.taken body at self.old).reply ≡ false → IsOk result }
+            → replies.is_freed (messages.on_body body at self.old).reply ≡ false → IsOk result }
     {
         match body {
             Body::Submit(_) => Ok(()),

@@ -11,16 +11,16 @@ use Rattle.ticket_items.proofs.Places.{is_some-find}
 use Rattle.ticket_rows.proofs.NodePlaces.{node_ids_distinct}
 use Rattle.ticket_items.proofs.AtKey.{any_key}
 use Rattle.ticket_items.specs.Ids.{mem, are_distinct}
-use Rattle.ticket_rows.specs.OneRow.{appended}
+use Rattle.ticket_rows.specs.OneRow.{rows_with_audit}
 use Rattle.ticket_rows.specs.Place.{is_below, node_places}
-use Rattle.ticket_tree.specs.Part.{Copied}
+use Rattle.ticket_tree.specs.Part.{PartCopy}
 use Rattle.ticket_rows.specs.Ticket.{row_of}
 use Rattle.ticket_items.specs.declared.node_row.NodeRow.{NodeRow}
 use Rattle.ticket_items.specs.declared.resource.Resource.{Resource}
 use Rattle.spawn.proofs.Chosen.{resources_cons}
 use Rattle.spawn.proofs.Entries.{find_kept}
 use Rattle.spawn.proofs.GoodCopies.{resources_apart}
-use Rattle.spawn.specs.Parts.{above, lifted, part_for, resources}
+use Rattle.spawn.specs.Parts.{above, lifted_row, part_for, resources}
 use Rattle.spawn.specs.Spawning.{parent_of}
 use Rattle.merge.specs.Laws.{MadePartFits, MadePartChangesNothing}
 use Rattle.merge.specs.Put.{merged_audit, resource_from, row_from}
@@ -93,33 +93,33 @@ same_pool ids all (x ∷ pool) own =
     ∙ ap (λ y. y ∷ map (resource_from (filter (λ z. mem z.id ids) all)) pool) (either_self (mem x.id ids) x) ∙ ap (λ ys. x ∷ ys) (same_pool ids all pool own.1)
 
 lifted_at : (here : Bool) (k : ℕ) (r : NodeRow) (o later : Option NodeRow)
-    → o ≡ option_map (lifted k) later
-    → cond here (Some (lifted k r)) o ≡ option_map (lifted k) (cond here (Some r) later)
+    → o ≡ option_map (lifted_row k) later
+    → cond here (Some (lifted_row k r)) o ≡ option_map (lifted_row k) (cond here (Some r) later)
 lifted_at true k r o later e = refl
 lifted_at false k r o later e = e
 
 row_of_lifted : (k : ℕ) (rows : List NodeRow) (x : List ℕ)
-    → row_of (map (lifted k) rows) x ≡ option_map (lifted k) (row_of rows x)
+    → row_of (map (lifted_row k) rows) x ≡ option_map (lifted_row k) (row_of rows x)
 row_of_lifted k [] x = refl
-row_of_lifted k (r ∷ rows) x = lifted_at (bytes_eq r.id x) k r (row_of (map (lifted k) rows) x) (row_of rows x) (row_of_lifted k rows x)
+row_of_lifted k (r ∷ rows) x = lifted_at (bytes_eq r.id x) k r (row_of (map (lifted_row k) rows) x) (row_of rows x) (row_of_lifted k rows x)
 
 row_back : (b : Bool) (k : ℕ) (r : NodeRow) (pool : List Resource) → pool ≡ r.resources
     → option_map_or (λ (new : NodeRow). record new { depth = r.depth })
-    (option_map (lifted k) (cond b (Some r) None)) (record r { resources = pool })
+    (option_map (lifted_row k) (cond b (Some r) None)) (record r { resources = pool })
     ≡ r
 row_back true k r pool e = refl
 row_back false k r pool e = ap (λ xs. record r { resources = xs }) e
 
-same_rows : (p : Copied) (all : List NodeRow) (ok : List ℕ → Bool) (k : ℕ) (ids : List (List ℕ))
+same_rows : (p : PartCopy) (all : List NodeRow) (ok : List ℕ → Bool) (k : ℕ) (ids : List (List ℕ))
     (pools : List Resource)
-    → p.rows ≡ map (lifted k) (filter (λ r. ok r.id) all) → p.rw ≡ filter (λ x. mem x.id ids) pools
+    → p.rows ≡ map (lifted_row k) (filter (λ r. ok r.id) all) → p.rw ≡ filter (λ x. mem x.id ids) pools
     → (rows : List NodeRow) → AllOwn (λ (r : NodeRow). r.id) all rows
     → AllOwn by_id pools (resources rows) → map (row_from p) rows ≡ rows
 same_rows p all ok k ids pools rs xs [] own pool_own = refl
 same_rows p all ok k ids pools rs xs (r ∷ rows) own pool_own =
     let both = subst (AllOwn by_id pools) (resources_cons r rows) pool_own in
     let pool = ap (λ ys. map (resource_from ys) r.resources) xs ∙ same_pool ids pools r.resources (own_front by_id pools r.resources (resources rows) both) in
-    let found = ap (λ ys. row_of ys r.id) rs ∙ row_of_lifted k (filter (λ s. ok s.id) all) r.id ∙ ap (option_map (lifted k)) (find_kept (λ (s : NodeRow). s.id) ok r.id all ∙ ap (λ o. cond (ok r.id) o None) own.0) in
+    let found = ap (λ ys. row_of ys r.id) rs ∙ row_of_lifted k (filter (λ s. ok s.id) all) r.id ∙ ap (option_map (lifted_row k)) (find_kept (λ (s : NodeRow). s.id) ok r.id all ∙ ap (λ o. cond (ok r.id) o None) own.0) in
     ap (λ o. option_map_or (λ (new : NodeRow). record new { depth = r.depth }) o (record r { resources = map (resource_from p.rw) r.resources }) ∷ map (row_from p) rows) found
     ∙ ap (λ s. s ∷ map (row_from p) rows) (row_back (ok r.id) k r (map (resource_from p.rw) r.resources) pool)
     ∙ ap (λ ss. r ∷ ss) (same_rows p all ok k ids pools rs xs rows own.1 (own_back by_id pools r.resources (resources rows) both))
@@ -129,5 +129,5 @@ made_part_changes_nothing t r at valid =
     let rows = t.rows in
     let own = all_own (λ (s : NodeRow). s.id) rows rows (λ y s found. found) (node_ids_distinct rows valid.distinct) in
     let pools = all_own by_id (resources rows) (resources rows) (λ y x found. found) (resources_apart rows valid) in
-    ap (λ rs. record t { rows = appended (parent_of rows r.node) (merged_audit r at) rs })
+    ap (λ rs. record t { rows = rows_with_audit (parent_of rows r.node) (merged_audit r at) rs })
     (same_rows (part_for t r) rows (λ x. is_below (node_places rows) x r.node) (length (above rows r.node)) r.rw (resources rows) refl refl rows own pools)

@@ -2,7 +2,7 @@
 use Rattle.std.proofs.Common.{◌≡◌, ℕ, true, List, Some, slice_get, refl}
 use Rattle.ticket_rows.specs.Place.{places}
 use Rattle.ticket_rows.specs.Ticket.{Job, IsValid}
-use Rattle.ticket_tree.specs.Part.{Copied}
+use Rattle.ticket_tree.specs.Part.{PartCopy}
 use Rattle.spawn.proofs.Ended.{end_keeps_apart, end_keeps_others, ended_claim_is_masters}
 use Rattle.spawn.specs.Laws.{StandApart}
 use Rattle.spawn.specs.Records.{is_out}
@@ -16,7 +16,7 @@ use Rattle.merge.specs.Shape.{Fits}
 abbrev as_merged : SpawnRec → SpawnRec
 as_merged r = record r { phase = Merged }
 
-still : (t : Job) (recs : List SpawnRec) (k : ℕ) (r : SpawnRec) (p : Copied) (time : ℕ)
+still : (t : Job) (recs : List SpawnRec) (k : ℕ) (r : SpawnRec) (p : PartCopy) (time : ℕ)
     → IsValid t.rows → StandApart t.rows recs → slice_get recs k ≡ Some r → is_out r ≡ true
     → Fits t r p → places (put t r p time).rows ≡ places t.rows
 still t recs k r p time valid apart there out fits = put_of_places t r p time valid (apart.good k r there out) fits

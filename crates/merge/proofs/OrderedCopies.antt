@@ -18,19 +18,19 @@ use Rattle.spawn.proofs.Chosen.{resources_cons}
 use Rattle.spawn.proofs.SameCopies.{alike-Decides}
 use Rattle.spawn.specs.OfResource.{has_id}
 use Rattle.spawn.specs.Parts.{resources, resources_among}
-use Rattle.merge.specs.InOrder.{past, left_behind, are_met}
+use Rattle.merge.specs.InOrder.{are_met, rest_behind, without_first}
 
 -- ---- row by row
 
 pub met_behind : {X Y : Type 0} (test : X → Y → Bool) (xs zs : List X) (ys : List Y)
-    → are_met test (xs ++ zs) ys ≡ are_met test zs (left_behind test xs ys)
+    → are_met test (xs ++ zs) ys ≡ are_met test zs (rest_behind test xs ys)
 met_behind test [] zs ys = refl
-met_behind test (x ∷ xs) zs ys = met_behind test xs zs (past test x ys)
+met_behind test (x ∷ xs) zs ys = met_behind test xs zs (without_first test x ys)
 
 -- one row more, that has this pool
 pub met_more : {Y : Type 0} (test : Resource → Y → Bool) (rows : List NodeRow) (i : ℕ) (d : NodeRow)
     (pool : List Resource) (ys left : List Y)
-    → i < length rows → pool ≡ (get_or rows i d).resources → left ≡ left_behind test pool ys
+    → i < length rows → pool ≡ (get_or rows i d).resources → left ≡ rest_behind test pool ys
     → are_met test (resources (drop (i + 1) rows)) left ≡ are_met test (resources (drop i rows)) ys
 met_more test rows i d pool ys left within own step =
     let later = resources (drop (i + 1) rows) in

@@ -10,11 +10,11 @@ use Rattle.ticket_items.specs.Ids.{mem, are_distinct}
 use Rattle.ticket_rows.proofs.Below.{Path}
 use Rattle.ticket_rows.proofs.NodePlaces.{node_ids_distinct}
 use Rattle.ticket_rows.specs.Place.{Place, Thing, node_place, resource_place, places_from, places}
-use Rattle.ticket_rows.specs.Place.{path_of, last_of, fixed}
+use Rattle.ticket_rows.specs.Place.{last_of, named_thing, path_of}
 use Rattle.ticket_rows.specs.Ticket.{Job, IsValid, ids, node_ids, row_of}
 use Rattle.ticket_tree.proofs.OnPlaces.{ids_of_places}
 use Rattle.ticket_tree.proofs.PlainOneRow.{append_of_places}
-use Rattle.ticket_tree.specs.Part.{Copied}
+use Rattle.ticket_tree.specs.Part.{PartCopy}
 use Rattle.ticket_items.specs.declared.node_row.NodeRow.{NodeRow}
 use Rattle.ticket_items.specs.declared.resource.Resource.{Resource}
 use Rattle.spawn.proofs.Among.{AreApart, apart_lists, distinct_back, distinct_front, out_of_both}
@@ -27,7 +27,7 @@ use Rattle.spawn.proofs.PartShows.{not_both}
 use Rattle.spawn.proofs.RowsBelow.{rows_below-around}
 use Rattle.spawn.proofs.Split.{Around, around}
 use Rattle.spawn.specs.Claim.{ids_of}
-use Rattle.spawn.specs.Parts.{above, lifted, resources, resources_among}
+use Rattle.spawn.specs.Parts.{above, lifted_row, resources, resources_among}
 use Rattle.spawn.specs.Spawning.{parent_of}
 use Rattle.spawn.specs.declared.records.spawn_rec.SpawnRec.{SpawnRec}
 use Rattle.merge.proofs.Lawful.{AllOwn, all_own, by_id, own_back, own_front}
@@ -53,7 +53,7 @@ shape_places before [] = []
 shape_places before (s ∷ shapes) = record { id = s.id; path = shape_path before s; thing = s.thing } ∷ (map (fixed_place (shape_path before s)) s.pool ++ shape_places (shape_path before s) shapes)
 
 pool_places : (path : Path) (pool : List Resource)
-    → map (resource_place path) pool ≡ map (fixed_place path) (map fixed pool)
+    → map (resource_place path) pool ≡ map (fixed_place path) (map named_thing pool)
 pool_places path [] = refl
 pool_places path (x ∷ pool) = ap (λ ps. resource_place path x ∷ ps) (pool_places path pool)
 
@@ -62,7 +62,7 @@ places_by_shape : (before : Path) (rows : List NodeRow)
 places_by_shape before [] = refl
 places_by_shape before (r ∷ rows) =
     let path = path_of before r in
-    ap (λ ps. node_place r path ∷ (ps ++ places_from path rows)) (pool_places path r.resources) ∙ ap (λ ps. node_place r path ∷ (map (fixed_place path) (map fixed r.resources) ++ ps)) (places_by_shape path rows)
+    ap (λ ps. node_place r path ∷ (ps ++ places_from path rows)) (pool_places path r.resources) ∙ ap (λ ps. node_place r path ∷ (map (fixed_place path) (map named_thing r.resources) ++ ps)) (places_by_shape path rows)
 
 pub same_places : (xs ys : List NodeRow) → map shape xs ≡ map shape ys → places xs ≡ places ys
 same_places xs ys e = places_by_shape [] xs ∙ ap (shape_places []) e ∙ sym (places_by_shape [] ys)
@@ -72,7 +72,7 @@ same_ids xs ys e = sym (ids_of_places [] xs) ∙ ap ids_of (same_places xs ys e)
 
 -- ---- rows outside the part: their resources may be the part's
 
-pub outside_put : (p : Copied) (rows : List NodeRow) → AreApart (node_ids rows) (node_ids p.rows)
+pub outside_put : (p : PartCopy) (rows : List NodeRow) → AreApart (node_ids rows) (node_ids p.rows)
     → map (row_from p) rows ≡ with_resources p.rw rows
 outside_put p [] apart = refl
 outside_put p (r ∷ rows) apart =
@@ -87,29 +87,29 @@ mapped_at true x o f later e = refl
 mapped_at false x o f later e = e
 
 found_fixed : (xs : List Resource) (y : List ℕ)
-    → option_map fixed (find (λ x. bytes_eq x.id y) xs) ≡ find (λ f. bytes_eq f.0 y) (map fixed xs)
+    → option_map named_thing (find (λ x. bytes_eq x.id y) xs) ≡ find (λ f. bytes_eq f.0 y) (map named_thing xs)
 found_fixed [] y = refl
-found_fixed (x ∷ xs) y = mapped_at (bytes_eq x.id y) x (find (λ z. bytes_eq z.id y) xs) fixed (find (λ f. bytes_eq f.0 y) (map fixed xs)) (found_fixed xs y)
+found_fixed (x ∷ xs) y = mapped_at (bytes_eq x.id y) x (find (λ z. bytes_eq z.id y) xs) named_thing (find (λ f. bytes_eq f.0 y) (map named_thing xs)) (found_fixed xs y)
 
 fixed_at : (b : Bool) (o : Option Resource) (x : Resource)
-    → option_map fixed o ≡ option_map fixed (cond b (Some x) None)
-    → fixed (option_map_or (λ y. y) o x) ≡ fixed x
+    → option_map named_thing o ≡ option_map named_thing (cond b (Some x) None)
+    → named_thing (option_map_or (λ y. y) o x) ≡ named_thing x
 fixed_at b None x e = refl
-fixed_at true (Some y) x e = ap (λ o. option_map_or (λ f. f) o (fixed x)) e
+fixed_at true (Some y) x e = ap (λ o. option_map_or (λ f. f) o (named_thing x)) e
 fixed_at false (Some y) x e = cc
 
 -- what of the resources never changes is the same in the part
-pool_fixed : (t : Job) (r : SpawnRec) (p : Copied) (pool : List Resource) → Fits t r p
+pool_fixed : (t : Job) (r : SpawnRec) (p : PartCopy) (pool : List Resource) → Fits t r p
     → AllOwn by_id (resources t.rows) pool
-    → map fixed (map (resource_from p.rw) pool) ≡ map fixed pool
+    → map named_thing (map (resource_from p.rw) pool) ≡ map named_thing pool
 pool_fixed t r p [] fits own = refl
 pool_fixed t r p (x ∷ pool) fits own =
     let all = resources t.rows in
     let found = found_fixed p.rw x.id ∙ ap (find (λ f. bytes_eq f.0 x.id)) fits.rw ∙ sym (found_fixed (resources_among r.rw t.rows) x.id)
-    ∙ ap (option_map fixed) (find_kept by_id (λ i. mem i r.rw) x.id all ∙ ap (λ o. cond (mem x.id r.rw) o None) own.0) in
-    ap (λ f. f ∷ map fixed (map (resource_from p.rw) pool)) (fixed_at (mem x.id r.rw) (find (λ y. bytes_eq y.id x.id) p.rw) x found) ∙ ap (λ fs. fixed x ∷ fs) (pool_fixed t r p pool fits own.1)
+    ∙ ap (option_map named_thing) (find_kept by_id (λ i. mem i r.rw) x.id all ∙ ap (λ o. cond (mem x.id r.rw) o None) own.0) in
+    ap (λ f. f ∷ map named_thing (map (resource_from p.rw) pool)) (fixed_at (mem x.id r.rw) (find (λ y. bytes_eq y.id x.id) p.rw) x found) ∙ ap (λ fs. named_thing x ∷ fs) (pool_fixed t r p pool fits own.1)
 
-outside_shapes : (t : Job) (r : SpawnRec) (p : Copied) (rows : List NodeRow) → Fits t r p
+outside_shapes : (t : Job) (r : SpawnRec) (p : PartCopy) (rows : List NodeRow) → Fits t r p
     → AllOwn by_id (resources t.rows) (resources rows)
     → map shape (with_resources p.rw rows) ≡ map shape rows
 outside_shapes t r p [] fits own = refl
@@ -126,14 +126,14 @@ deepened [] news = []
 deepened (o ∷ olds) [] = []
 deepened (o ∷ olds) (n ∷ news) = record n { depth = o.depth } ∷ deepened olds news
 
-inside_put : (p : Copied) (levels : ℕ) (olds news : List NodeRow)
+inside_put : (p : PartCopy) (levels : ℕ) (olds news : List NodeRow)
     → AllOwn (λ (s : NodeRow). s.id) p.rows news
     → map shape news ≡ map shape (all_lifted levels olds)
     → map (row_from p) olds ≡ deepened olds news
 inside_put p levels [] news own same = refl
 inside_put p levels (o ∷ olds) [] own same = cc
 inside_put p levels (o ∷ olds) (n ∷ news) own same =
-    let parts = heads (shape n) (shape (lifted levels o)) (map shape news) (map shape (all_lifted levels olds)) same in
+    let parts = heads (shape n) (shape (lifted_row levels o)) (map shape news) (map shape (all_lifted levels olds)) same in
     let found : row_of p.rows o.id ≡ Some n = ap (λ s. row_of p.rows s.id) (sym parts.0) ∙ own.0 in
     ap (λ q. option_map_or (λ (new : NodeRow). record new { depth = o.depth }) q (pool_from p.rw o) ∷ map (row_from p) olds) found
     ∙ ap (λ rs. record n { depth = o.depth } ∷ rs) (inside_put p levels olds news own.1 parts.1)
@@ -145,7 +145,7 @@ deep_entries f g own levels [] [] same = refl
 deep_entries f g own levels [] (n ∷ news) same = cc
 deep_entries f g own levels (o ∷ olds) [] same = refl
 deep_entries f g own levels (o ∷ olds) (n ∷ news) same =
-    let parts = heads (shape n) (shape (lifted levels o)) (map shape news) (map shape (all_lifted levels olds)) same in
+    let parts = heads (shape n) (shape (lifted_row levels o)) (map shape news) (map shape (all_lifted levels olds)) same in
     ap (λ v. ((n.id, v) ∷ pool_entries g n.resources) ++ entries f g (deepened olds news)) (own n o.depth n.resources) ∙ ap (λ ls. entries_of f g n ++ ls) (deep_entries f g own levels olds news parts.1)
 
 deep_shapes : (levels : ℕ) (olds news : List NodeRow)
@@ -154,13 +154,13 @@ deep_shapes : (levels : ℕ) (olds news : List NodeRow)
 deep_shapes levels [] news same = refl
 deep_shapes levels (o ∷ olds) [] same = cc
 deep_shapes levels (o ∷ olds) (n ∷ news) same =
-    let parts = heads (shape n) (shape (lifted levels o)) (map shape news) (map shape (all_lifted levels olds)) same in
+    let parts = heads (shape n) (shape (lifted_row levels o)) (map shape news) (map shape (all_lifted levels olds)) same in
     ap (λ (s : Shape). record s { depth = o.depth } ∷ map shape (deepened olds news)) parts.0 ∙ ap (λ ss. shape o ∷ ss) (deep_shapes levels olds news parts.1)
 
 -- ---- the rows around the node
 
 -- the rows of a ticket at the node of a spawn, when a part is put back
-pub record PutAround (t : Job) (r : SpawnRec) (p : Copied)
+pub record PutAround (t : Job) (r : SpawnRec) (p : PartCopy)
     (at : Around t.rows r.node) : Type 0 where
   pub shapes : map shape p.rows ≡ map shape (all_lifted (length (above t.rows r.node)) (at.root ∷ at.inner))
   pub split : rows_from p t.rows ≡ with_resources p.rw at.front ++ (deepened (at.root ∷ at.inner) p.rows ++ with_resources p.rw at.back)
@@ -171,7 +171,7 @@ pub record PutAround (t : Job) (r : SpawnRec) (p : Copied)
 apart_back : (xs ys : List (List ℕ)) → are_distinct (xs ++ ys) ≡ true → AreApart ys xs
 apart_back xs ys apart x there = not_both (mem x xs) (mem x ys) (λ first. apart_lists x xs ys apart first) there
 
-pub put_around : (t : Job) (r : SpawnRec) (p : Copied) → IsValid t.rows → Fits t r p
+pub put_around : (t : Job) (r : SpawnRec) (p : PartCopy) → IsValid t.rows → Fits t r p
     → (at : Around t.rows r.node) → PutAround t r p at
 put_around t r p valid fits at =
     let rows = t.rows in
@@ -201,7 +201,7 @@ put_around t r p valid fits at =
       part = same_ids p.rows (all_lifted levels mid) shapes ∙ ids_lifted levels mid;
     }
 
-pub put_shapes : (t : Job) (r : SpawnRec) (p : Copied) → IsValid t.rows → Fits t r p
+pub put_shapes : (t : Job) (r : SpawnRec) (p : PartCopy) → IsValid t.rows → Fits t r p
     → (at : Around t.rows r.node) → map shape (rows_from p t.rows) ≡ map shape t.rows
 put_shapes t r p valid fits at =
     let put = put_around t r p valid fits at in
@@ -214,7 +214,7 @@ put_shapes t r p valid fits at =
     ∙ sym (ap (map shape) (at.whole ∙ append_assoc at.front mid at.back) ∙ map-append shape at.front (mid ++ at.back) ∙ ap (λ ss. map shape at.front ++ ss) (map-append shape mid at.back))
 
 -- nothing moves
-places_put : (t : Job) (r : SpawnRec) (p : Copied) → IsValid t.rows → Fits t r p
+places_put : (t : Job) (r : SpawnRec) (p : PartCopy) → IsValid t.rows → Fits t r p
     → Around t.rows r.node → places (rows_from p t.rows) ≡ places t.rows
 places_put t r p valid fits at = same_places (rows_from p t.rows) t.rows (put_shapes t r p valid fits at)
 

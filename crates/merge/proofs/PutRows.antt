@@ -19,7 +19,7 @@ use Rattle.ticket_rows.specs.Ticket.{Job, IsValid, ids, node_ids}
 use Rattle.ticket_tree.proofs.ById.{node_no_resource}
 use Rattle.ticket_tree.proofs.OnPlaces.{stands_somewhere}
 use Rattle.ticket_tree.proofs.PlainRows.{changed_node}
-use Rattle.ticket_tree.specs.Part.{Copied}
+use Rattle.ticket_tree.specs.Part.{PartCopy}
 use Rattle.ticket_tree.specs.PartView.{own_rows}
 use Rattle.ticket_items.specs.declared.node_row.NodeRow.{NodeRow}
 use Rattle.ticket_items.specs.declared.resource.Resource.{Resource}
@@ -36,7 +36,7 @@ use Rattle.spawn.proofs.PartShows.{out_of_claim, stands_below}
 use Rattle.spawn.proofs.Split.{Around, around}
 use Rattle.spawn.proofs.Standing.{named}
 use Rattle.spawn.specs.Claim.{is_claimed}
-use Rattle.spawn.specs.Parts.{above, lifted, resources, resources_among}
+use Rattle.spawn.specs.Parts.{above, lifted_row, resources, resources_among}
 use Rattle.spawn.specs.Records.{IsGood}
 use Rattle.spawn.specs.Spawning.{parent_of}
 use Rattle.spawn.specs.declared.records.spawn_rec.SpawnRec.{SpawnRec}
@@ -124,7 +124,7 @@ stands_as_resource rows y out there =
 -- ---- what is found when a part is put back
 
 put_look : {V : Type 0} (f : NodeRow → V) (g : Resource → V) → IsOwn f
-    → (t : Job) (r : SpawnRec) (p : Copied) (y : List ℕ) → IsValid t.rows → Fits t r p
+    → (t : Job) (r : SpawnRec) (p : PartCopy) (y : List ℕ) → IsValid t.rows → Fits t r p
     → (at : Around t.rows r.node)
     → look (entries f g (rows_from p t.rows)) y
     ≡ option_or (look (entries f g (with_resources p.rw at.front)) y)
@@ -143,7 +143,7 @@ put_look f g own t r p y valid fits at =
 
 -- below the node it is the part's
 put_inside : {V : Type 0} (f : NodeRow → V) (g : Resource → V) → IsOwn f
-    → (t : Job) (r : SpawnRec) (p : Copied) (y : List ℕ) → IsValid t.rows → IsGood t.rows r
+    → (t : Job) (r : SpawnRec) (p : PartCopy) (y : List ℕ) → IsValid t.rows → IsGood t.rows r
     → Fits t r p → (at : Around t.rows r.node) → mem y (ids (at.root ∷ at.inner)) ≡ true
     → look (entries f g (rows_from p t.rows)) y ≡ look (entries f g (own_rows p)) y
 put_inside f g own t r p y valid good fits at there =
@@ -163,7 +163,7 @@ outer at = at.front ++ at.back
 
 -- elsewhere it is found outside of the part
 put_outer : {V : Type 0} (f : NodeRow → V) (g : Resource → V) → IsOwn f
-    → (t : Job) (r : SpawnRec) (p : Copied) (y : List ℕ) → IsValid t.rows → Fits t r p
+    → (t : Job) (r : SpawnRec) (p : PartCopy) (y : List ℕ) → IsValid t.rows → Fits t r p
     → (at : Around t.rows r.node) → mem y (ids (at.root ∷ at.inner)) ≡ false
     → look (entries f g (rows_from p t.rows)) y
     ≡ look (entries f g (with_resources p.rw (outer at))) y
@@ -186,7 +186,7 @@ around_outer f g rows n y at out =
 
 -- what isn't claimed is as it was
 put_unclaimed : {V : Type 0} (f : NodeRow → V) (g : Resource → V) → IsOwn f
-    → (t : Job) (r : SpawnRec) (p : Copied) (y : List ℕ) → IsValid t.rows → Fits t r p
+    → (t : Job) (r : SpawnRec) (p : PartCopy) (y : List ℕ) → IsValid t.rows → Fits t r p
     → (at : Around t.rows r.node) → IsOutOf t.rows r at y
     → look (entries f g (rows_from p t.rows)) y ≡ look (entries f g t.rows) y
 put_unclaimed f g own t r p y valid fits at out =
@@ -225,7 +225,7 @@ first_copies f g own [] s shapes copies y same out = cc
 first_copies f g own (r ∷ rows) s shapes copies y same out = look_copies f g own r rows copies y out
 
 put_copied : {V : Type 0} (f : NodeRow → V) (g : Resource → V) → IsOwn f
-    → (t : Job) (r : SpawnRec) (p : Copied) (y : List ℕ) → IsValid t.rows → IsGood t.rows r
+    → (t : Job) (r : SpawnRec) (p : PartCopy) (y : List ℕ) → IsValid t.rows → IsGood t.rows r
     → Fits t r p → (at : Around t.rows r.node) → mem y (ids t.rows) ≡ true → mem y r.rw ≡ true
     → look (entries f g (rows_from p t.rows)) y ≡ look (entries f g (own_rows p)) y
 put_copied f g own t r p y valid good fits at there chosen =
@@ -241,12 +241,12 @@ put_copied f g own t r p y valid good fits at there chosen =
     ∙ look_resource f g new y (ap (mem y) (ids_kept (pool_from p.rw) (outer at) (λ s. refl)) ∙ no_outer)
     ∙ ap (λ xs. look (pool_entries g xs) y) (resources-mapped (pool_from p.rw) (resource_from p.rw) (outer at) (λ s. refl))
     ∙ pool_taken g p.rw (resources (outer at)) y copied (stands_as_resource (outer at) y no_outer (outer_stands rows r.node y at there out))
-    ∙ sym (first_copies f g own p.rows (shape (lifted levels at.root)) (map shape (all_lifted levels at.inner)) p.rw y put.shapes (ap (mem y) put.part ∙ out))
+    ∙ sym (first_copies f g own p.rows (shape (lifted_row levels at.root)) (map shape (all_lifted levels at.inner)) p.rw y put.shapes (ap (mem y) put.part ∙ out))
 
 -- ---- the claim
 
 claimed_at : {V : Type 0} (b : Bool) (f : NodeRow → V) (g : Resource → V) → IsOwn f
-    → (t : Job) (r : SpawnRec) (p : Copied) (y : List ℕ) → IsValid t.rows → IsGood t.rows r
+    → (t : Job) (r : SpawnRec) (p : PartCopy) (y : List ℕ) → IsValid t.rows → IsGood t.rows r
     → Fits t r p → (at : Around t.rows r.node) → mem y (ids t.rows) ≡ true
     → mem y (ids (at.root ∷ at.inner)) ≡ b → (b || mem y r.rw) ≡ true
     → look (entries f g (rows_from p t.rows)) y ≡ look (entries f g (own_rows p)) y
@@ -254,7 +254,7 @@ claimed_at true f g own t r p y valid good fits at there e claims = put_inside f
 claimed_at false f g own t r p y valid good fits at there e claims = put_copied f g own t r p y valid good fits at there claims
 
 put_claimed : {V : Type 0} (f : NodeRow → V) (g : Resource → V) → IsOwn f
-    → (t : Job) (r : SpawnRec) (p : Copied) (y : List ℕ) (q : Place) → IsValid t.rows
+    → (t : Job) (r : SpawnRec) (p : PartCopy) (y : List ℕ) (q : Place) → IsValid t.rows
     → IsGood t.rows r → Fits t r p → (at : Around t.rows r.node)
     → place_at (places t.rows) y ≡ Some q
     → is_claimed r.node r.rw q ≡ true
@@ -264,7 +264,7 @@ put_claimed f g own t r p y q valid good fits at found claims =
     (ap (λ b. b || mem y r.rw) (stands_below t.rows r.node y q valid at found) ∙ ap (λ i. below r.node q || mem i r.rw) (sym (named (places t.rows) y q found)) ∙ claims)
 
 merged_at : {V : Type 0} (o : Option Place) (b : Bool) (f : NodeRow → V) (g : Resource → V)
-    → IsOwn f → (t : Job) (r : SpawnRec) (p : Copied) (y : List ℕ) → IsValid t.rows
+    → IsOwn f → (t : Job) (r : SpawnRec) (p : PartCopy) (y : List ℕ) → IsValid t.rows
     → IsGood t.rows r → Fits t r p → (at : Around t.rows r.node) → place_at (places t.rows) y ≡ o
     → option_map_or (is_claimed r.node r.rw) o false ≡ b
     → look (entries f g (rows_from p t.rows)) y

@@ -6,7 +6,7 @@ use Rattle.ticket_items.specs.Resource.{resource_ids}
 use Rattle.ticket_rows.proofs.Changes.{IsValid-with_row}
 use Rattle.ticket_rows.proofs.OneRows.{IsValid-replaced_node, IsValid-replaced_resource}
 use Rattle.ticket_rows.proofs.OneRows.{keeps-append}
-use Rattle.ticket_rows.specs.OneRow.{appended}
+use Rattle.ticket_rows.specs.OneRow.{rows_with_audit}
 use Rattle.ticket_rows.specs.Ticket.{IsValid}
 use Rattle.ticket_items.specs.declared.node_row.NodeRow.{NodeRow}
 use Rattle.ticket_items.specs.declared.resource.Resource.{Resource}
@@ -47,7 +47,7 @@ put_is_valid t r p time valid good fits free =
     let rows = t.rows in
     let u = parent_of rows r.node in
     let audit = merged_audit r time in
-    let told = appended u audit rows in
+    let told = rows_with_audit u audit rows in
     let told_valid = IsValid-with_row u (λ s. record s { audits = s.audits ++ audit ∷ [] }) rows (keeps-append audit) valid in
     let copied = with_resources p.rw told in
     let copied_valid = valid_resources told [] p.rw (part_copies t r p valid fits).distinct (subst IsValid (sym (no_resources told)) told_valid) in

@@ -15,11 +15,11 @@ use Rattle.ticket_rows.proofs.NodePlaces.{node_ids_distinct}
 use Rattle.ticket_items.proofs.AtKey.{any_key}
 use Rattle.ticket_rows.specs.Homes.{resource_of}
 use Rattle.ticket_items.specs.Ids.{mem, are_distinct}
-use Rattle.ticket_rows.specs.OneRow.{MayReplaceNode, MayReplaceResource, appended}
-use Rattle.ticket_tree.specs.Part.{Copied}
+use Rattle.ticket_rows.specs.OneRow.{MayReplaceNode, MayReplaceResource, rows_with_audit}
+use Rattle.ticket_tree.specs.Part.{PartCopy}
 use Rattle.ticket_rows.specs.Copies.{with_copies}
 use Rattle.ticket_items.specs.Resource.{resource_ids}
-use Rattle.ticket_rows.specs.Place.{node_thing, node_places, up, is_below, fixed}
+use Rattle.ticket_rows.specs.Place.{is_below, named_thing, node_places, node_thing, up}
 use Rattle.ticket_rows.specs.Ticket.{Job, IsValid, are_unreserved, is_reserved, node_ids, row_of}
 use Rattle.ticket_items.specs.declared.audit.Audit.{Audit}
 use Rattle.ticket_items.specs.declared.node_row.NodeRow.{NodeRow}
@@ -30,7 +30,7 @@ use Rattle.spawn.proofs.HomesBelow.{not_above}
 use Rattle.spawn.proofs.RowsBelow.{rows_below-around}
 use Rattle.spawn.proofs.Outside.{some_of}
 use Rattle.spawn.proofs.Split.{Around, around}
-use Rattle.spawn.specs.Parts.{above, lifted, resources, resources_among}
+use Rattle.spawn.specs.Parts.{above, lifted_row, resources, resources_among}
 use Rattle.ticket_tree.specs.At.{rows_below}
 use Rattle.spawn.specs.Records.{IsGood}
 use Rattle.spawn.specs.Spawning.{parent_of}
@@ -83,17 +83,17 @@ own_kept key all f (x ∷ xs) own = own_at (f x) key all x (filter f xs) own.0 (
 
 -- ---- nodes
 
-pub first_ids : (news olds : List Resource) → map fixed news ≡ map fixed olds
+pub first_ids : (news olds : List Resource) → map named_thing news ≡ map named_thing olds
     → resource_ids news ≡ resource_ids olds
 first_ids [] [] e = refl
 first_ids [] (y ∷ olds) e = cc
 first_ids (x ∷ news) [] e = cc
 first_ids (x ∷ news) (y ∷ olds) e =
-    let parts = heads (fixed x) (fixed y) (map fixed news) (map fixed olds) e in
+    let parts = heads (named_thing x) (named_thing y) (map named_thing news) (map named_thing olds) e in
     ap (λ i. i ∷ resource_ids news) (ap (λ f. f.0) parts.0) ∙ ap (λ is. y.id ∷ is) (first_ids news olds parts.1)
 
 one_node : (rows : List NodeRow) (levels : ℕ) (old new : NodeRow) → row_of rows old.id ≡ Some old
-    → shape new ≡ shape (lifted levels old) → is_reserved new.status ≡ false
+    → shape new ≡ shape (lifted_row levels old) → is_reserved new.status ≡ false
     → MayReplaceNode rows new
 one_node rows levels old new own same free =
     record {
@@ -110,7 +110,7 @@ each_node : (rows : List NodeRow) (levels : ℕ) (olds news : List NodeRow)
 each_node rows levels olds [] own same free = tt
 each_node rows levels [] (n ∷ news) own same free = cc
 each_node rows levels (o ∷ olds) (n ∷ news) own same free =
-    let parts = heads (shape n) (shape (lifted levels o)) (map shape news) (map shape (all_lifted levels olds)) same in
+    let parts = heads (shape n) (shape (lifted_row levels o)) (map shape news) (map shape (all_lifted levels olds)) same in
     let statuses = and_parts (not (is_reserved n.status)) (are_unreserved news) free in
     (one_node rows levels o n own.0 parts.0 (not-true _ statuses.0), each_node rows levels olds news own.1 parts.1 statuses.1)
 
@@ -121,14 +121,14 @@ shape_ids levels [] [] e = refl
 shape_ids levels [] (n ∷ news) e = cc
 shape_ids levels (o ∷ olds) [] e = cc
 shape_ids levels (o ∷ olds) (n ∷ news) e =
-    let parts = heads (shape n) (shape (lifted levels o)) (map shape news) (map shape (all_lifted levels olds)) e in
+    let parts = heads (shape n) (shape (lifted_row levels o)) (map shape news) (map shape (all_lifted levels olds)) e in
     ap (λ i. i ∷ node_ids news) (ap (λ s. s.id) parts.0) ∙ ap (λ is. o.id ∷ is) (shape_ids levels olds news parts.1)
 
-pub part_ids : (t : Job) (r : SpawnRec) (p : Copied) → Fits t r p
+pub part_ids : (t : Job) (r : SpawnRec) (p : PartCopy) → Fits t r p
     → node_ids p.rows ≡ node_ids (rows_below t.rows r.node)
 part_ids t r p fits = shape_ids (length (above t.rows r.node)) (rows_below t.rows r.node) p.rows fits.rows
 
-pub free_nodes : (t : Job) (r : SpawnRec) (p : Copied) → IsValid t.rows
+pub free_nodes : (t : Job) (r : SpawnRec) (p : PartCopy) → IsValid t.rows
     → are_unreserved p.rows ≡ true → Fits t r p → MayTakeNodes t.rows p.rows
 free_nodes t r p valid free fits =
     let rows = t.rows in
@@ -140,14 +140,14 @@ free_nodes t r p valid free fits =
       distinct = ap are_distinct (part_ids t r p fits) ∙ distinct_kept (λ s. s.id) f rows apart;
     }
 
-pub part_nodes : (t : Job) (r : SpawnRec) (p : Copied) → IsValid t.rows
+pub part_nodes : (t : Job) (r : SpawnRec) (p : PartCopy) → IsValid t.rows
     → IsValid (with_copies p.rows p.rw p.ro) → Fits t r p → MayTakeNodes t.rows p.rows
 part_nodes t r p valid part_valid fits = free_nodes t r p valid (sym (unreserved-copies p.rows p.rw p.ro) ∙ part_valid.unreserved) fits
 
 -- ---- resources
 
 one_resource : (rows : List NodeRow) (old new : Resource)
-    → find (λ z. bytes_eq z.id old.id) (resources rows) ≡ Some old → fixed new ≡ fixed old
+    → find (λ z. bytes_eq z.id old.id) (resources rows) ≡ Some old → named_thing new ≡ named_thing old
     → MayReplaceResource rows new
 one_resource rows old new own same =
     record {
@@ -157,15 +157,15 @@ one_resource rows old new own same =
     }
 
 each_resource : (rows : List NodeRow) (olds news : List Resource)
-    → AllOwn (λ x. x.id) (resources rows) olds → map fixed news ≡ map fixed olds
+    → AllOwn (λ x. x.id) (resources rows) olds → map named_thing news ≡ map named_thing olds
     → EachMayReplaceResource rows news
 each_resource rows olds [] own same = tt
 each_resource rows [] (n ∷ news) own same = cc
 each_resource rows (o ∷ olds) (n ∷ news) own same =
-    let parts = heads (fixed n) (fixed o) (map fixed news) (map fixed olds) same in
+    let parts = heads (named_thing n) (named_thing o) (map named_thing news) (map named_thing olds) same in
     (one_resource rows o n own.0 parts.0, each_resource rows olds news own.1 parts.1)
 
-pub part_copies : (t : Job) (r : SpawnRec) (p : Copied) → IsValid t.rows → Fits t r p
+pub part_copies : (t : Job) (r : SpawnRec) (p : PartCopy) → IsValid t.rows → Fits t r p
     → MayTakeResources t.rows p.rw
 part_copies t r p valid fits =
     let all = resources t.rows in
@@ -234,7 +234,7 @@ keeps_told n audit =
     same h false s r e = refl
 
 pub nodes_told : (n : List ℕ) (audit : Audit) (rows new : List NodeRow) → MayTakeNodes rows new
-    → MayTakeNodes (appended n audit rows) new
+    → MayTakeNodes (rows_with_audit n audit rows) new
 nodes_told n audit rows new may = record { each = each_kept (told n audit) rows new (keeps_told n audit) may.each; distinct = may.distinct }
 
 pool_told : (b : Bool) (audit : Audit) (r : NodeRow)
@@ -247,26 +247,26 @@ same_map [] = refl
 same_map (x ∷ pool) = ap (λ xs. x ∷ xs) (same_map pool)
 
 same_resources : (n : List ℕ) (audit : Audit) (rows : List NodeRow)
-    → resources (appended n audit rows) ≡ resources rows
+    → resources (rows_with_audit n audit rows) ≡ resources rows
 same_resources n audit rows = resources-mapped (told n audit) (λ x. x) rows (λ r. pool_told (bytes_eq r.id n) audit r ∙ sym (same_map r.resources)) ∙ same_map (resources rows)
 
 resource_told : (n : List ℕ) (audit : Audit) (rows : List NodeRow) (y : List ℕ)
-    → resource_of (appended n audit rows) y ≡ resource_of rows y
-resource_told n audit rows y = resource_is (appended n audit rows) y ∙ ap (find (λ x. bytes_eq x.id y)) (same_resources n audit rows) ∙ sym (resource_is rows y)
+    → resource_of (rows_with_audit n audit rows) y ≡ resource_of rows y
+resource_told n audit rows y = resource_is (rows_with_audit n audit rows) y ∙ ap (find (λ x. bytes_eq x.id y)) (same_resources n audit rows) ∙ sym (resource_is rows y)
 
 each_resource_told : (n : List ℕ) (audit : Audit) (rows : List NodeRow) (new : List Resource)
-    → EachMayReplaceResource rows new → EachMayReplaceResource (appended n audit rows) new
+    → EachMayReplaceResource rows new → EachMayReplaceResource (rows_with_audit n audit rows) new
 each_resource_told n audit rows [] each = tt
 each_resource_told n audit rows (x ∷ new) each =
     (record { old = each.0.old; there = resource_told n audit rows x.id ∙ each.0.there; thing = each.0.thing }, each_resource_told n audit rows new each.1)
 
 pub copies_told : (n : List ℕ) (audit : Audit) (rows : List NodeRow) (new : List Resource)
-    → MayTakeResources rows new → MayTakeResources (appended n audit rows) new
+    → MayTakeResources rows new → MayTakeResources (rows_with_audit n audit rows) new
 copies_told n audit rows new may = record { each = each_resource_told n audit rows new may.each; distinct = may.distinct }
 
 -- ---- the audit stands outside of the part
 
-put_at : (b : Bool) (n : List ℕ) (audit : Audit) (p : Copied) (r : NodeRow) → bytes_eq r.id n ≡ b
+put_at : (b : Bool) (n : List ℕ) (audit : Audit) (p : PartCopy) (r : NodeRow) → bytes_eq r.id n ≡ b
     → row_of p.rows n ≡ None
     → node_from p.rows (pool_from p.rw (cond b (more audit r) r))
     ≡ cond b (more audit (row_from p r)) (row_from p r)
@@ -284,16 +284,16 @@ row_id : (r : NodeRow) (pool : List Resource) (o : Option NodeRow)
 row_id r pool None same = refl
 row_id r pool (Some x) same = same x refl
 
-pub row_from-id : (p : Copied) (r : NodeRow) → (row_from p r).id ≡ r.id
+pub row_from-id : (p : PartCopy) (r : NodeRow) → (row_from p r).id ≡ r.id
 row_from-id p r = row_id r (map (resource_from p.rw) r.resources) (row_of p.rows r.id) (λ x found. found_key (λ z. z.id) p.rows r.id x found)
 
-pub put_told : (n : List ℕ) (audit : Audit) (p : Copied) (rows : List NodeRow)
+pub put_told : (n : List ℕ) (audit : Audit) (p : PartCopy) (rows : List NodeRow)
     → row_of p.rows n ≡ None
-    → with_nodes p.rows (with_resources p.rw (appended n audit rows))
-    ≡ appended n audit (rows_from p rows)
+    → with_nodes p.rows (with_resources p.rw (rows_with_audit n audit rows))
+    ≡ rows_with_audit n audit (rows_from p rows)
 put_told n audit p [] none = refl
 put_told n audit p (r ∷ rows) none =
-    ap (λ s. s ∷ with_nodes p.rows (with_resources p.rw (appended n audit rows)))
+    ap (λ s. s ∷ with_nodes p.rows (with_resources p.rw (rows_with_audit n audit rows)))
     (put_at (bytes_eq r.id n) n audit p r refl none ∙ ap (λ i. cond (bytes_eq i n) (more audit (row_from p r)) (row_from p r)) (sym (row_from-id p r)))
     ∙ ap (λ rs. told n audit (row_from p r) ∷ rs) (put_told n audit p rows none)
 
@@ -307,7 +307,7 @@ out_by false rows n u valid at e above = refl
 out_by true rows n u valid at e above = absurd (true≢false (sym above ∙ not_above rows n u valid at e))
 
 -- the parent of the node isn't in the part
-pub parent_out : (t : Job) (r : SpawnRec) (p : Copied) (u : List ℕ) → IsValid t.rows
+pub parent_out : (t : Job) (r : SpawnRec) (p : PartCopy) (u : List ℕ) → IsValid t.rows
     → (at : Around t.rows r.node) → Fits t r p → up (node_places t.rows) r.node ≡ Some u
     → row_of p.rows u ≡ None
 parent_out t r p u valid at fits above =
@@ -315,7 +315,7 @@ parent_out t r p u valid at fits above =
     let ids = part_ids t r p fits ∙ ap node_ids (rows_below-around t.rows r.node valid at) in
     unfound (λ s. s.id) p.rows u (ap (mem u) ids ∙ out_by (mem u (node_ids (at.root ∷ at.inner))) t.rows r.node u valid at refl on)
 
-pub parent_of_out : (t : Job) (r : SpawnRec) (p : Copied) → IsValid t.rows → IsGood t.rows r
+pub parent_of_out : (t : Job) (r : SpawnRec) (p : PartCopy) → IsValid t.rows → IsGood t.rows r
     → Fits t r p → row_of p.rows (parent_of t.rows r.node) ≡ None
 parent_of_out t r p valid good fits =
     let found = some_of (up (node_places t.rows) r.node) good.has_parent in

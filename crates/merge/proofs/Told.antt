@@ -14,10 +14,10 @@ use Rattle.ticket_items.specs.declared.node_row.NodeRow.{NodeRow}
 use Rattle.ticket_items.specs.declared.usage.Usage.{Usage}
 use Rattle.ticket_items.specs.declared.usage.Usage.TheVariants.{Input, Output}
 use Rattle.ticket_items.specs.Resource.{is_alike}
-use Rattle.ticket_rows.specs.Place.{links_of, fixed}
+use Rattle.ticket_rows.specs.Place.{links_of, named_thing}
 use Rattle.ticket_tree.proofs.PlainOneRow.{name_in, class_in}
 use Rattle.spawn.proofs.SameCopies.{ids-Decides, pairs-Decides, alike-Decides}
-use Rattle.spawn.specs.Parts.{lifted}
+use Rattle.spawn.specs.Parts.{lifted_row}
 use Rattle.merge.specs.Alike.{is_link, is_audit, is_row}
 use Rattle.merge.specs.Shape.{shape, first_audits}
 
@@ -97,7 +97,7 @@ begun-Decides olds news = Decides-like _ sym sym (slice_eq-Decides audit-Decides
 
 row-Decides : (levels : ℕ) (old new : NodeRow)
     → Decides (is_row levels old new)
-    ((shape new ≡ shape (lifted levels old))
+    ((shape new ≡ shape (lifted_row levels old))
     × (take (length old.audits) new.audits ≡ old.audits))
 row-Decides levels old new =
     Decides-like _ (λ ((((((id, depth), kind), job_part), links), pool), audits). (cc, audits))
@@ -111,11 +111,11 @@ row-Decides levels old new =
     (Decides-and _ _ (Decides-and _ _ (bytes_eq-Decides old.id new.id) (Decides-eqb (old.depth - levels) new.depth)) (bytes_eq-Decides old.kind new.kind))
     (bytes_eq-Decides old.job_part new.job_part))
     (slice_eq-Decides link-Decides old.links new.links _ refl))
-    (pairs-Decides is_alike fixed fixed alike-Decides old.resources new.resources))
+    (pairs-Decides is_alike named_thing named_thing alike-Decides old.resources new.resources))
     (begun-Decides old.audits new.audits))
 
 abbrev pub all_lifted : ℕ → List NodeRow → List NodeRow
-all_lifted levels rows = map (lifted levels) rows
+all_lifted levels rows = map (lifted_row levels) rows
 
 -- the rows have the shape of the ticket's, and begin with their audits
 pub rows-Decides : (levels : ℕ) (olds news : List NodeRow)

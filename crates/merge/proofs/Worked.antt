@@ -6,7 +6,7 @@ use Rattle.std.specs.Fmt.{digits}
 use Rattle.std.proofs.lemmas.Bool.{true≢false}
 use Rattle.std.specs.Prelude.{codes}
 use Rattle.std.specs.Str.{bytes_eq}
-use Rattle.ticket_tree.specs.Part.{Copied}
+use Rattle.ticket_tree.specs.Part.{PartCopy}
 use Rattle.ticket_rows.specs.Place.{Row, links_of, row_in}
 use Rattle.ticket_rows.specs.Ticket.{Job}
 use Rattle.ticket_items.specs.declared.audit.Audit.{Audit}
@@ -18,7 +18,7 @@ use Rattle.ticket_items.specs.declared.usage.Usage.TheVariants.{Input, Output}
 use Rattle.merge.specs.PlainPut.{merged_recs, merged_rows}
 use Rattle.merge.specs.Put.{put}
 use Rattle.merge.specs.Shape.{Fits, Shape}
-use Rattle.merge.specs.Withdrawal.{withdrawn}
+use Rattle.merge.specs.Withdrawal.{job_after_withdrawal}
 use Rattle.spawn.specs.Parts.{part_for}
 use Rattle.spawn.specs.Table.{holder_of}
 use Rattle.spawn.specs.declared.tables.holder.Holder.TheVariants.{Master, Spawn}
@@ -68,7 +68,7 @@ same_fits : Fits job first (part_for job first)
 same_fits = record { job = refl; spawn = refl; rows = refl; rw = refl; audits = refl }
 
 -- the part when the sheets are printed, with these links and audits of the printing
-abbrev printed : List Link → List Audit → Copied
+abbrev printed : List Link → List Audit → PartCopy
 printed links audits =
     record {
       job_id = codes "J1";
@@ -94,7 +94,7 @@ unfolding digits
 printed_put = refl
 
 -- as the spawn is withdrawn a note stands at the parent, and all else is as it was
-printing_withdrawn : withdrawn job first 120 ≡ record {
+printing_withdrawn : job_after_withdrawal job first 120 ≡ record {
   job_id = codes "J1";
   rows = product (paper ∷ sheets (codes "Unavailable") ∷ []) (Notification 120 (codes "Withdrawn S1") ∷ []) ∷ waiting ∷ cutting ∷ [];
 }

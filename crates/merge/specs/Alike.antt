@@ -13,7 +13,7 @@ use Rattle.ticket_items.specs.declared.node_row.NodeRow.{NodeRow}
 use Rattle.ticket_items.specs.declared.resource.Resource.{Resource}
 use Rattle.ticket_rows.specs.Ticket.{Job}
 use Rattle.ticket_tree.specs.At.{rows_below}
-use Rattle.ticket_tree.specs.Part.{Copied}
+use Rattle.ticket_tree.specs.Part.{PartCopy}
 use Rattle.spawn.specs.OfResource as of
 use Rattle.spawn.specs.Parts.{above, resources_among}
 use Rattle.spawn.specs.declared.records.spawn_rec.SpawnRec.{SpawnRec}
@@ -41,12 +41,12 @@ behind (x ∷ xs) copies = option_and_then (behind xs) (of.behind (is_alike x) c
 
 -- whether a part has the job and spawn id of a record, and its rows and copies to change are these
 -- rows, so many levels higher, and the resources of the record, but for what a worker may change
-abbrev pub is_part : Job → SpawnRec → List NodeRow → ℕ → Copied → Bool
+abbrev pub is_part : Job → SpawnRec → List NodeRow → ℕ → PartCopy → Bool
 is_part t r below levels p =
     bytes_eq p.job_id t.job_id && p.spawn_id == r.id && pointwise (is_row levels) below p.rows
     && pointwise is_alike (resources_among r.rw t.rows) p.rw
 
 -- whether a part fits the claim of a spawn, as a test: it is one in the same cases in which `Fits`
 -- holds
-abbrev pub is_fit : Job → SpawnRec → Copied → Bool
+abbrev pub is_fit : Job → SpawnRec → PartCopy → Bool
 is_fit t r p = is_part t r (rows_below t.rows r.node) (length (above t.rows r.node)) p

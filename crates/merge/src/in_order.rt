@@ -9,8 +9,8 @@ use spawn::{OfResource, behind};
 use ticket_tree::{Resource, Rows};
 
 /// The ids or copies that are left behind the resources of a pool.
-fn left_behind<'a, T: OfResource>(pool: &[Resource], items: &'a [T]) -> &'a [T]
-    ensures { result.now ≡ order.left_behind T.is_of pool.now items.now }
+fn rest_behind<'a, T: OfResource>(pool: &[Resource], items: &'a [T]) -> &'a [T]
+    ensures { result.now ≡ order.rest_behind T.is_of pool.now items.now }
 {
     let mut left = items;
     for resource in pool {
@@ -28,7 +28,7 @@ pub fn are_in_order<T: OfResource>(rows: &Rows<'_>, items: &[T]) -> bool
     let mut left = items;
     for place in 0..rows.len() {
         let row = rows.at(place);
-        left = left_behind(row.resources.as_slice(), left);
+        left = rest_behind(row.resources.as_slice(), left);
     }
     left.is_empty()
 }

@@ -1,7 +1,7 @@
 //! The merge of a part.
 
 ghost use Rattle.std.specs.Prelude.{◌≡◌, true, IfOk, IfErr, OnOk, OnErr};
-ghost use Rattle.ticket_rows.specs.OneRow.{appended};
+ghost use Rattle.ticket_rows.specs.OneRow.{rows_with_audit};
 ghost use Rattle.ticket_rows.specs.Ticket.{IsValid};
 ghost use Rattle.spawn.specs.Records.{IsGood, is_out};
 ghost use Rattle.spawn.specs.Spawning as spawning;
@@ -42,7 +42,7 @@ fn tell_of_merge(
     requires { IsGood ticket.old.rows spawn.now }
     ensures ok { OnOk result (ticket.new
         ≡ record ticket.old {
-          rows = appended (spawning.parent_of ticket.old.rows spawn.now.node)
+          rows = rows_with_audit (spawning.parent_of ticket.old.rows spawn.now.node)
               (puts.merged_audit spawn.now at) ticket.old.rows;
         }) }
     ensures err { OnErr result (ticket.new ≡ ticket.old) }

@@ -1,7 +1,7 @@
 //! Telling of a spawn in its ticket.
 
 ghost use Rattle.std.specs.Prelude.{◌≡◌, IfErr, OnErr, OnOk};
-ghost use Rattle.ticket_rows.specs.OneRow.{appended};
+ghost use Rattle.ticket_rows.specs.OneRow.{rows_with_audit};
 ghost use Rattle.ticket_rows.specs.Ticket.{IsValid};
 ghost use Rattle.spawn.specs.Records.{IsGood};
 ghost use Rattle.spawn.specs.Spawning as spawning;
@@ -21,7 +21,8 @@ pub fn tell(
     requires { IsGood ticket.old.rows spawn.now }
     ensures ok { OnOk result (ticket.new
         ≡ record ticket.old {
-          rows = appended (spawning.parent_of ticket.old.rows spawn.now.node) audit ticket.old.rows;
+          rows = rows_with_audit (spawning.parent_of ticket.old.rows spawn.now.node) audit
+              ticket.old.rows;
         }) }
     ensures err { OnErr result (ticket.new ≡ ticket.old) }
     ensures memory { IfErr result (λ e. e ≡ Refusal.Memory) }

@@ -16,7 +16,7 @@ fn withdrawn_text(alloc: Global, spawn: SpawnId) -> Result<Text, AllocError>
     ensures { IfOk result (λ text. text ≡ codes "Withdrawn " ++ spawn_text spawn) }
 {
     let text = format!(in alloc; "Withdrawn S{}", spawn.number())?;
-    Text::known(alloc, text.as_str())
+    Text::from_valid(alloc, text.as_str())
 }
 
 /// The audit that tells of the withdrawal of a spawn.
@@ -44,7 +44,8 @@ pub fn withdraw(
     // Proved: As a spawn is withdrawn a note tells of it, and nothing else changes; memory alone
     // is refused.
     // By `withdrawn`, `phase`, `ticket`, `spawn`, `memory`.
-    ensures withdrawn { OnOk result (ticket.new ≡ withdrawals.withdrawn ticket.old spawn.old at) }
+    ensures withdrawn { OnOk result (ticket.new
+        ≡ withdrawals.job_after_withdrawal ticket.old spawn.old at) }
     ensures phase { OnOk result (spawn.new ≡ record spawn.old { phase = Withdrawn }) }
     ensures ticket { OnErr result (ticket.new ≡ ticket.old) }
     ensures spawn { OnErr result (spawn.new ≡ spawn.old) }

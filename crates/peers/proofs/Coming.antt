@@ -10,11 +10,11 @@ use Rattle.streams.specs.declared.refused.Refused.{Refused}
 use Rattle.streams.specs.declared.refused.Refused.TheVariants.{Core}
 use Rattle.http_message.proofs.Heads.{begins_more}
 use Rattle.peers.proofs.Reading.{nothing_read}
-use Rattle.http_message.specs.Incoming.{Came, Gained, IsLost, IsWanted, Says}
+use Rattle.http_message.specs.Incoming.{Gained, IncomingView, IsLost, IsWanted, Says}
 use Rattle.http_message.specs.declared.kind.Kind.{Kind}
-use Rattle.http_message.specs.declared.wanted.Wanted.{Wanted}
+use Rattle.http_message.specs.declared.wanted.Need.{Need}
 use Rattle.peers.specs.Calls.{Comes, Continues, Grows, HasAsked, IsRefusedAt, Refuses, Throws, ThrowsOn, Wants}
-use Rattle.peers.specs.Peer.{Decides, IsOut, IsUnanswered, Lingers, Reads, ReadsOn, Seen, asking, interim, is_open, is_quiet, with_came, with_interim}
+use Rattle.peers.specs.Peer.{Decides, IsOut, IsUnanswered, Lingers, PeerView, Reads, ReadsOn, interim, is_open, is_quiet, with_came, with_continue, with_interim}
 use Rattle.peers.specs.declared.event.Event.{Event}
 use Rattle.peers.specs.declared.event.Event.TheVariants as events
 use Rattle.peers.specs.declared.phase.Phase.TheVariants as phases
@@ -29,30 +29,30 @@ consumes_more (Some x) (Some y) (Some z) g h first second = first ∙ ap (λ r. 
 
 -- ---- the interim response
 
-came_asking : (c : Bool) (s : Seen) → (if c then asking s else s).came ≡ s.came
+came_asking : (c : Bool) (s : PeerView) → (if c then with_continue s else s).came ≡ s.came
 came_asking true s = refl
 came_asking false s = refl
 
-phase_asking : (c : Bool) (s : Seen) → (if c then asking s else s).phase ≡ s.phase
+phase_asking : (c : Bool) (s : PeerView) → (if c then with_continue s else s).phase ≡ s.phase
 phase_asking true s = refl
 phase_asking false s = refl
 
-came_behind : (c : Bool) (came : Came) (s : Seen) → with_came came (if c then asking s else s) ≡ (if c then asking (with_came came s) else with_came came s)
+came_behind : (c : Bool) (came : IncomingView) (s : PeerView) → with_came came (if c then with_continue s else s) ≡ (if c then with_continue (with_came came s) else with_came came s)
 came_behind true came s = refl
 came_behind false came s = refl
 
-unanswered_asking : (e asked : Bool) (s : Seen) → s.asked ≡ asked → IsUnanswered s → IsUnanswered (if e && not asked then asking s else s)
+unanswered_asking : (e asked : Bool) (s : PeerView) → s.asked ≡ asked → IsUnanswered s → IsUnanswered (if e && not asked then with_continue s else s)
 unanswered_asking true true s is none = none
 unanswered_asking true false s is none = ap (λ o. o ++ interim true) (none ∙ ap interim is)
 unanswered_asking false true s is none = none
 unanswered_asking false false s is none = none
 
-pub unanswered_still : (e : Bool) (s : Seen) → IsUnanswered s → IsUnanswered (with_interim e s)
+pub unanswered_still : (e : Bool) (s : PeerView) → IsUnanswered s → IsUnanswered (with_interim e s)
 unanswered_still e s none = unanswered_asking e s.asked s refl none
 
-asking_twice : (a b asked : Bool) (s : Seen) → s.asked ≡ asked
-    → (if b && not (if a && not asked then asking s else s).asked then asking (if a && not asked then asking s else s) else (if a && not asked then asking s else s))
-    ≡ (if (a || b) && not asked then asking s else s)
+asking_twice : (a b asked : Bool) (s : PeerView) → s.asked ≡ asked
+    → (if b && not (if a && not asked then with_continue s else s).asked then with_continue (if a && not asked then with_continue s else s) else (if a && not asked then with_continue s else s))
+    ≡ (if (a || b) && not asked then with_continue s else s)
 asking_twice true true true s is = rw is refl
 asking_twice true true false s is = refl
 asking_twice true false true s is = refl
@@ -62,14 +62,14 @@ asking_twice false true false s is = rw is refl
 asking_twice false false true s is = refl
 asking_twice false false false s is = refl
 
-interim_twice : (a b : Bool) (s : Seen) → with_interim b (with_interim a s) ≡ with_interim (a || b) s
+interim_twice : (a b : Bool) (s : PeerView) → with_interim b (with_interim a s) ≡ with_interim (a || b) s
 interim_twice a b s = asking_twice a b s.asked s refl
 
 asked_or : (a b : Bool) (P : Type 0) → (a ≡ true → P) → (b ≡ true → P) → (a || b) ≡ true → P
 asked_or true b P first second is = first refl
 asked_or false b P first second is = second is
 
-asked_given : (e asked : Bool) (s : Seen) → s.asked ≡ asked → e ≡ true → (if e && not asked then asking s else s).asked ≡ true
+asked_given : (e asked : Bool) (s : PeerView) → s.asked ≡ asked → e ≡ true → (if e && not asked then with_continue s else s).asked ≡ true
 asked_given true true s is expects = is
 asked_given true false s is expects = refl
 asked_given false asked s is expects = absurd (false≢true expects)
@@ -79,7 +79,7 @@ asked_given false asked s is expects = absurd (false≢true expects)
 asked_more : (kind : Kind) (bytes more : List ℕ) → HasAsked kind bytes → HasAsked kind (bytes ++ more)
 asked_more kind bytes more asked = (asked.0, begins_more kind bytes more asked.0 asked.1, asked.2)
 
-pub grows_none : (s : Seen) → Grows s s []
+pub grows_none : (s : PeerView) → Grows s s []
 grows_none s =
     record {
       kind = refl;
@@ -91,7 +91,7 @@ grows_none s =
     }
 
 -- P of what came before and since is P of what came before that, and since then
-as_before : (P : ℕ → Kind → List ℕ → Type 0) (old cur : Seen) (g h : List ℕ) → Grows old cur g
+as_before : (P : ℕ → Kind → List ℕ → Type 0) (old cur : PeerView) (g h : List ℕ) → Grows old cur g
     → P cur.came.most cur.came.kind (cur.came.bytes ++ h) → P old.came.most old.came.kind (old.came.bytes ++ (g ++ h))
 as_before P old cur g h grows is =
     let bytes : cur.came.bytes ++ h ≡ old.came.bytes ++ (g ++ h) = ap (λ b. b ++ h) grows.bytes ∙ append_assoc old.came.bytes g h in
@@ -99,7 +99,7 @@ as_before P old cur g h grows is =
     (subst (λ (k : Kind). P cur.came.most k (old.came.bytes ++ (g ++ h))) grows.kind
     (subst (λ (b : List ℕ). P cur.came.most cur.came.kind b) bytes is))
 
-pub grows_more : (old cur new : Seen) (g h : List ℕ) → Grows old cur g → Grows cur new h → Grows old new (g ++ h)
+pub grows_more : (old cur new : PeerView) (g h : List ℕ) → Grows old cur g → Grows cur new h → Grows old new (g ++ h)
 grows_more old cur new g h first second =
     record {
       kind = second.kind ∙ first.kind;
@@ -115,16 +115,16 @@ grows_more old cur new g h first second =
           ∙ interim_twice first.asks second.asks (with_came new.came old);
     }
 
-pub phase_of_grown : (old new : Seen) (g : List ℕ) → Grows old new g → new.phase ≡ old.phase
+pub phase_of_grown : (old new : PeerView) (g : List ℕ) → Grows old new g → new.phase ≡ old.phase
 phase_of_grown old new g grows = ap (λ s. s.phase) grows.left ∙ phase_asking (grows.asks && not old.asked) (with_came new.came old)
 
 -- ---- one read
 
-asks_for : (most : ℕ) (kind : Kind) (bytes : List ℕ) (w : Wanted) → IsWanted most kind bytes w → w.expects_continue ≡ true → HasAsked kind bytes
+asks_for : (most : ℕ) (kind : Kind) (bytes : List ℕ) (w : Need) → IsWanted most kind bytes w → w.expects_continue ≡ true → HasAsked kind bytes
 asks_for most kind bytes w wanted is =
     ⊎_elim (λ h. absurd (false≢true (sym h.quiet ∙ is))) (λ b. (b.head, b.begins, sym b.expects ∙ is)) wanted.more
 
-grows_interim : (old : Seen) (w : Wanted) → IsWanted old.came.most old.came.kind old.came.bytes w → (new : Seen)
+grows_interim : (old : PeerView) (w : Need) → IsWanted old.came.most old.came.kind old.came.bytes w → (new : PeerView)
     → new ≡ with_interim w.expects_continue old → Grows old new []
 grows_interim old w wanted new is =
     let came : new.came ≡ old.came = ap (λ s. s.came) is ∙ came_asking (w.expects_continue && not old.asked) old in
@@ -138,16 +138,16 @@ grows_interim old w wanted new is =
       left = is ∙ ap (λ k. with_interim w.expects_continue (with_came k old)) (sym came);
     }
 
-wants_still : (old : Seen) (w : Wanted) → IsWanted old.came.most old.came.kind old.came.bytes w → (new : Seen)
+wants_still : (old : PeerView) (w : Need) → IsWanted old.came.most old.came.kind old.came.bytes w → (new : PeerView)
     → new ≡ with_interim w.expects_continue old → Wants new
 wants_still old w wanted new is =
     let came : old.came ≡ new.came = sym (ap (λ s. s.came) is ∙ came_asking (w.expects_continue && not old.asked) old) in (
       w,
-      subst (λ (k : Came). IsWanted k.most k.kind k.bytes w) came wanted,
+      subst (λ (k : IncomingView). IsWanted k.most k.kind k.bytes w) came wanted,
       λ expects. ap (λ s. s.asked) is ∙ asked_given w.expects_continue old.asked old refl expects,
     )
 
-goes_on : (before after : Option (List ℕ)) (old : Seen) (w : Wanted) → IsWanted old.came.most old.came.kind old.came.bytes w → (new : Seen)
+goes_on : (before after : Option (List ℕ)) (old : PeerView) (w : Need) → IsWanted old.came.most old.came.kind old.came.bytes w → (new : PeerView)
     → new ≡ with_came new.came (with_interim w.expects_continue old)
     → Gained w.room before after (with_interim w.expects_continue old).came new.came → Continues before after old new
 goes_on before after old w wanted new left gained =
@@ -168,10 +168,10 @@ goes_on before after old w wanted new left gained =
 with_none : (P : List ℕ → Type 0) (bytes : List ℕ) → P bytes → P (bytes ++ [])
 with_none P bytes is = subst P (sym (append-nil bytes)) is
 
-unanswered_left : (old new : Seen) → new.out ≡ old.out → new.asked ≡ old.asked → IsUnanswered old → IsUnanswered new
+unanswered_left : (old new : PeerView) → new.out ≡ old.out → new.asked ≡ old.asked → IsUnanswered old → IsUnanswered new
 unanswered_left old new out asked none = out ∙ none ∙ ap interim (sym asked)
 
-decided : (now : ℕ) (before after : Option (List ℕ)) (old new : Seen) (e : Event) → IsUnanswered old → Decides now old new e
+decided : (now : ℕ) (before after : Option (List ℕ)) (old new : PeerView) (e : Event) → IsUnanswered old → Decides now old new e
     → Consumes before after [] → Comes now before after old new e
 decided now before after old new events.Wait none decides idle = absurd decides
 decided now before after old new events.Again none decides idle = absurd decides
@@ -204,8 +204,8 @@ decided now before after old new (events.Refused e) none decides idle =
 decided now before after old new events.Written none decides idle = absurd decides
 decided now before after old new events.Closed none decides idle = absurd decides
 
-read_more : {T : Type 0} (known : T → Option (List ℕ)) (now : ℕ) (before after : Counts T) (old : Seen) (w : Wanted)
-    → IsWanted old.came.most old.came.kind old.came.bytes w → (new : Seen) (e : Event) → IsUnanswered old
+read_more : {T : Type 0} (known : T → Option (List ℕ)) (now : ℕ) (before after : Counts T) (old : PeerView) (w : Need)
+    → IsWanted old.came.most old.came.kind old.came.bytes w → (new : PeerView) (e : Event) → IsUnanswered old
     → ReadsOn known now w before after (with_interim w.expects_continue old) new e
     → Comes now (known before.inner) (known after.inner) old new e
 read_more known now before after old w wanted new events.Wait none on =
@@ -237,7 +237,7 @@ read_more known now before after old w wanted new events.Closed none on = (
   on.1,
 )
 
-memory_out : (now : ℕ) (before after : Option (List ℕ)) (old between new : Seen) (e : Event) → Grows old between [] → IsUnanswered between
+memory_out : (now : ℕ) (before after : Option (List ℕ)) (old between new : PeerView) (e : Event) → Grows old between [] → IsUnanswered between
     → IsOut now between new e → Comes now before after old new e
 memory_out now before after old between new e grows none out =
     let un : IsUnanswered new = unanswered_left between new (ap (λ s. s.out) out.1) (ap (λ s. s.asked) out.1) none in
@@ -245,7 +245,7 @@ memory_out now before after old between new e grows none out =
     subst (λ (v : Event). Comes now before after old new v) (sym out.0) comes
 
 -- one call is what its read comes to
-pub one_read : {T : Type 0} (known : T → Option (List ℕ)) (now : ℕ) (before after : Counts T) (old new : Seen) (e : Event) → IsUnanswered old
+pub one_read : {T : Type 0} (known : T → Option (List ℕ)) (now : ℕ) (before after : Counts T) (old new : PeerView) (e : Event) → IsUnanswered old
     → Reads known now before after old new e → Comes now (known before.inner) (known after.inner) old new e
 one_read known now before after old new e none reads =
     ⊎_elim
@@ -262,7 +262,7 @@ one_read known now before after old new e none reads =
 
 -- ---- several reads
 
-refuses_behind : (now : ℕ) (before mid after : Option (List ℕ)) (old cur between new : Seen) (g h : List ℕ) (e : Refused) → Grows old cur g
+refuses_behind : (now : ℕ) (before mid after : Option (List ℕ)) (old cur between new : PeerView) (g h : List ℕ) (e : Refused) → Grows old cur g
     → Consumes before mid g → Refuses now mid after cur between new h e → Refuses now before after old between new (g ++ h) e
 refuses_behind now before mid after old cur between new g h e grows taken refuses =
     ⊎_elim
@@ -274,7 +274,7 @@ refuses_behind now before mid after old cur between new g h e grows taken refuse
     (λ out. inr out)
     refuses
 
-pub comes_behind : (now : ℕ) (before mid after : Option (List ℕ)) (old cur new : Seen) (g : List ℕ) (e : Event) → Grows old cur g
+pub comes_behind : (now : ℕ) (before mid after : Option (List ℕ)) (old cur new : PeerView) (g : List ℕ) (e : Event) → Grows old cur g
     → Consumes before mid g → Comes now mid after cur new e → Comes now before after old new e
 comes_behind now before mid after old cur new g events.Wait grows taken comes = (
   (g ++ comes.0.0, grows_more old cur new g comes.0.0 grows comes.0.1, consumes_more before mid after g comes.0.0 taken comes.0.2),
@@ -309,24 +309,24 @@ comes_behind now before mid after old cur new g events.Closed grows taken comes 
 
 -- ---- what is thrown away
 
-abbrev sparing : ℕ → Seen → Seen
+abbrev sparing : ℕ → PeerView → PeerView
 sparing n s = record s { spare = n }
 
-throws_none : (s : Seen) → Throws s s
+throws_none : (s : PeerView) → Throws s s
 throws_none s = (refl, omega arith)
 
-throws_more : (old cur new : Seen) → Throws old cur → Throws cur new → Throws old new
+throws_more : (old cur new : PeerView) → Throws old cur → Throws cur new → Throws old new
 throws_more old cur new first second = (second.0 ∙ ap (sparing new.spare) first.0, omega (arith, first.1, second.1))
 
-thrown : (old new : Seen) (count : ℕ) → new ≡ record old { spare = old.spare - count } → Throws old new
+thrown : (old new : PeerView) (count : ℕ) → new ≡ record old { spare = old.spare - count } → Throws old new
 thrown old new count left =
     let spare : new.spare ≡ old.spare - count = ap (λ s. s.spare) left in
     (left ∙ ap (λ n. sparing n old) (sym spare), omega arith)
 
-stays_thrown : (old new : Seen) → new ≡ old → Throws old new
+stays_thrown : (old new : PeerView) → new ≡ old → Throws old new
 stays_thrown old new same = (same ∙ ap (λ n. sparing n old) (sym (ap (λ s. s.spare) same)), omega (arith, ap (λ s. s.spare) same))
 
-throws_behind : (old cur new : Seen) (e : Event) → Throws old cur → Lingers cur new e → ThrowsOn old new e
+throws_behind : (old cur new : PeerView) (e : Event) → Throws old cur → Lingers cur new e → ThrowsOn old new e
 throws_behind old cur new events.Wait throws lingers = throws_more old cur new throws (stays_thrown cur new lingers)
 throws_behind old cur new events.Again throws lingers = throws_more old cur new throws (thrown cur new lingers.0 lingers.2)
 throws_behind old cur new (events.Request r) throws lingers = absurd lingers
@@ -337,19 +337,19 @@ throws_behind old cur new events.Closed throws lingers = (cur, throws, lingers)
 -- ---- the reads of a turn
 
 -- one call, by the phase
-pub record Called {T : Type 0} (known : T → Option (List ℕ)) (now : ℕ) (before after : Counts T) (old new : Seen) (e : Event) : Type 0 where
+pub record Called {T : Type 0} (known : T → Option (List ℕ)) (now : ℕ) (before after : Counts T) (old new : PeerView) (e : Event) : Type 0 where
   pub reading : old.phase ≡ phases.Reading → Reads known now before after old new e
   pub lingering : old.phase ≡ phases.Lingering → Lingers old new e
   pub quiet : is_quiet old.phase ≡ true → (new ≡ old) × (after ≡ before) × (e ≡ events.Wait)
   pub unanswered : is_open old.phase ≡ true → IsUnanswered old
 
 -- what the calls so far left, of which nothing came, by the phase
-pub record Went {T : Type 0} (known : T → Option (List ℕ)) (before after : Counts T) (old new : Seen) : Type 0 where
+pub record Went {T : Type 0} (known : T → Option (List ℕ)) (before after : Counts T) (old new : PeerView) : Type 0 where
   pub reading : old.phase ≡ phases.Reading → Continues (known before.inner) (known after.inner) old new
   pub lingering : old.phase ≡ phases.Lingering → Throws old new
   pub quiet : is_quiet old.phase ≡ true → (new ≡ old) × (after ≡ before)
 
-pub went_none : {T : Type 0} (known : T → Option (List ℕ)) (stream : Counts T) (s : Seen) → Went known stream stream s s
+pub went_none : {T : Type 0} (known : T → Option (List ℕ)) (stream : Counts T) (s : PeerView) → Went known stream stream s s
 went_none known stream s =
     record {
       reading = λ is. ([], grows_none s, nothing_read (known stream.inner));
@@ -357,10 +357,10 @@ went_none known stream s =
       quiet = λ is. (refl, refl);
     }
 
-opened : (s : Seen) → s.phase ≡ phases.Reading → is_open s.phase ≡ true
+opened : (s : PeerView) → s.phase ≡ phases.Reading → is_open s.phase ≡ true
 opened s is = ap is_open is
 
-pub reads_end : {T : Type 0} (known : T → Option (List ℕ)) (now : ℕ) (before mid after : Counts T) (old cur new : Seen) (e : Event)
+pub reads_end : {T : Type 0} (known : T → Option (List ℕ)) (now : ℕ) (before mid after : Counts T) (old cur new : PeerView) (e : Event)
     → Went known before mid old cur → Called known now mid after cur new e → old.phase ≡ phases.Reading
     → Comes now (known before.inner) (known after.inner) old new e
 reads_end known now before mid after old cur new e went call is =
@@ -369,14 +369,14 @@ reads_end known now before mid after old cur new e went call is =
     comes_behind now (known before.inner) (known mid.inner) (known after.inner) old cur new on.0 e on.1 on.2
     (one_read known now mid after cur new e (call.unanswered (opened cur still)) (call.reading still))
 
-pub throws_end : {T : Type 0} (known : T → Option (List ℕ)) (now : ℕ) (before mid after : Counts T) (old cur new : Seen) (e : Event)
+pub throws_end : {T : Type 0} (known : T → Option (List ℕ)) (now : ℕ) (before mid after : Counts T) (old cur new : PeerView) (e : Event)
     → Went known before mid old cur → Called known now mid after cur new e → old.phase ≡ phases.Lingering → ThrowsOn old new e
 throws_end known now before mid after old cur new e went call is =
     let throws = went.lingering is in
     let still : cur.phase ≡ phases.Lingering = ap (λ s. s.phase) throws.0 ∙ is in
     throws_behind old cur new e throws (call.lingering still)
 
-pub quiet_end : {T : Type 0} (known : T → Option (List ℕ)) (now : ℕ) (before mid after : Counts T) (old cur new : Seen) (e : Event)
+pub quiet_end : {T : Type 0} (known : T → Option (List ℕ)) (now : ℕ) (before mid after : Counts T) (old cur new : PeerView) (e : Event)
     → Went known before mid old cur → Called known now mid after cur new e → is_quiet old.phase ≡ true
     → (new ≡ old) × (after ≡ before) × (e ≡ events.Wait)
 quiet_end known now before mid after old cur new e went call is =
@@ -385,7 +385,7 @@ quiet_end known now before mid after old cur new e went call is =
     let kept = call.quiet still in
     (kept.0 ∙ same.0, kept.1 ∙ same.1, kept.2)
 
-pub went_more : {T : Type 0} (known : T → Option (List ℕ)) (now : ℕ) (before mid after : Counts T) (old cur new : Seen) (e : Event)
+pub went_more : {T : Type 0} (known : T → Option (List ℕ)) (now : ℕ) (before mid after : Counts T) (old cur new : PeerView) (e : Event)
     → Went known before mid old cur → Called known now mid after cur new e → e ≡ events.Again → Went known before after old new
 went_more known now before mid after old cur new e went call again =
     record {
@@ -396,7 +396,7 @@ went_more known now before mid after old cur new e went call again =
     }
 
 -- where nothing is read in this phase, no call comes to more
-pub never_quiet : {T : Type 0} (known : T → Option (List ℕ)) (now : ℕ) (before mid after : Counts T) (old cur new : Seen) (e : Event)
+pub never_quiet : {T : Type 0} (known : T → Option (List ℕ)) (now : ℕ) (before mid after : Counts T) (old cur new : PeerView) (e : Event)
     → Went known before mid old cur → Called known now mid after cur new e → e ≡ events.Again → is_quiet old.phase ≡ true → ⊥
 never_quiet known now before mid after old cur new e went call again is =
     let wait : events.Wait ≡ events.Again = sym (quiet_end known now before mid after old cur new e went call is).2 ∙ again in

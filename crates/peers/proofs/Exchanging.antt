@@ -2,11 +2,11 @@
 use Rattle.std.proofs.Common.{length, ◌≡◌, ◌∙◌, ◌+◌, ◌-◌, ◌≤◌, ◌++◌, ℕ, Bool, List, [], Option, refl, sym, ap, subst, inl, inr, ⊎_elim, append_assoc, arith, take, drop}
 use Rattle.std.proofs.lemmas.List.{append-nil, drop-drop, length-append, length-drop, length-take-le, take-append-drop, take_all}
 use Rattle.std.specs.Io.KnownBytes.{Appends}
-use Rattle.http_message.specs.Incoming.{Came}
+use Rattle.http_message.specs.Incoming.{IncomingView}
 use Rattle.peers.proofs.Coming.{consumes_more}
 use Rattle.peers.proofs.Giving.{appends_more, appends_nothing, front_grown, keeps_same}
 use Rattle.peers.proofs.Reading.{nothing_read}
-use Rattle.peers.specs.Exchange.{Exchange, ReadsTo, Receives, Sends, sent, unsent}
+use Rattle.peers.specs.Exchange.{Exchange, ReadsTo, Receives, Sends, sent_bytes, unsent_bytes}
 use Rattle.peers.specs.declared.progress.Progress.{Progress}
 use Rattle.peers.specs.declared.progress.Progress.TheVariants as progresses
 
@@ -16,13 +16,13 @@ abbrev with_sent : ℕ → Bool → Exchange → Exchange
 with_sent n w x = record x { done = n; writes = w }
 
 sends_piece : (before after : Option (List ℕ)) (old new : Exchange) (piece : List ℕ) → Appends before after piece
-    → unsent old ≡ piece ++ unsent new → new ≡ with_sent (old.done + length piece) new.writes old → Sends before after old new
+    → unsent_bytes old ≡ piece ++ unsent_bytes new → new ≡ with_sent (old.done + length piece) new.writes old → Sends before after old new
 sends_piece before after old new piece given front left =
     record {
       piece = piece;
       given = given;
       front = front;
-      behind = ap sent left ∙ front_grown old.done old.request piece (front ∙ ap (λ x. piece ++ unsent x) left);
+      behind = ap sent_bytes left ∙ front_grown old.done old.request piece (front ∙ ap (λ x. piece ++ unsent_bytes x) left);
       left = left;
     }
 
@@ -36,13 +36,13 @@ sends_more a b c old cur new first second =
     let sum : (old.done + length first.piece) + length second.piece ≡ old.done + length (first.piece ++ second.piece) =
     omega (arith, length-append first.piece second.piece) in
     sends_piece a c old new (first.piece ++ second.piece) (appends_more a b c first.piece second.piece first.given second.given)
-    (first.front ∙ ap (λ r. first.piece ++ r) second.front ∙ sym (append_assoc first.piece second.piece (unsent new)))
+    (first.front ∙ ap (λ r. first.piece ++ r) second.front ∙ sym (append_assoc first.piece second.piece (unsent_bytes new)))
     (second.left ∙ ap (λ x. with_sent (x.done + length second.piece) new.writes x) first.left ∙ ap (λ n. with_sent n new.writes old) sum)
 
 -- whether it writes next makes no difference
 pub sends_then : (a b : Option (List ℕ)) (old cur new : Exchange) (w : Bool) → Sends a b old cur → new ≡ record cur { writes = w } → Sends a b old new
 sends_then a b old cur new w sends is =
-    sends_piece a b old new sends.piece sends.given (sends.front ∙ ap (λ x. sends.piece ++ unsent x) (sym is))
+    sends_piece a b old new sends.piece sends.given (sends.front ∙ ap (λ x. sends.piece ++ unsent_bytes x) (sym is))
     (is ∙ ap (λ x. with_sent x.done w x) sends.left ∙ ap (λ v. with_sent (old.done + length sends.piece) v old) (sym (ap (λ x. x.writes) is)))
 
 -- what is behind a place in a slice
@@ -64,7 +64,7 @@ sent_some before after old s count bytes same is within given =
 
 -- ---- the response
 
-abbrev with_response : Came → Bool → Exchange → Exchange
+abbrev with_response : IncomingView → Bool → Exchange → Exchange
 with_response came w x = record x { came = came; writes = w }
 
 pub receives_none : (known : Option (List ℕ)) (x : Exchange) → Receives known known x x

@@ -4,7 +4,7 @@ use Rattle.std.proofs.lemmas.Bool.{false≢true}
 use Rattle.streams.specs.Counts.{Counts}
 use Rattle.peers.specs.Calls.{Comes, GivesAll, GivesOn, Goes, HasMore, HasRead, ThrowsOn, Turns, Wants}
 use Rattle.peers.specs.Client.{Connection, IsOwed}
-use Rattle.peers.specs.Peer.{Seen, closed, is_quiet, wants_write}
+use Rattle.peers.specs.Peer.{PeerView, after_close, is_quiet, wants_write}
 use Rattle.peers.specs.Turn.{TurnsTo, turn_of}
 use Rattle.peers.specs.declared.event.Event.{Event}
 use Rattle.peers.specs.declared.event.Event.TheVariants as events
@@ -17,7 +17,7 @@ use Rattle.peers.proofs.Giving.{gives_none}
 -- ---- the reads
 
 -- what the reads come to, by the phase
-pub record HasCome {T : Type 0} (reads : T → Option (List ℕ)) (now : ℕ) (before after : Counts T) (old new : Seen) (e : Event) : Type 0 where
+pub record HasCome {T : Type 0} (reads : T → Option (List ℕ)) (now : ℕ) (before after : Counts T) (old new : PeerView) (e : Event) : Type 0 where
   pub reading : old.phase ≡ phases.Reading → Comes now (reads before.inner) (reads after.inner) old new e
   pub lingering : old.phase ≡ phases.Lingering → ThrowsOn old new e
   pub quiet : is_quiet old.phase ≡ true → (new ≡ old) × (after ≡ before)
@@ -38,7 +38,7 @@ is_wait _ = false
 waits : (e : Event) (P : Type 0) → is_wait e ≡ false → e ≡ events.Wait → P
 waits e P isnt is = absurd (false≢true (sym isnt ∙ ap is_wait is))
 
-reading_wait : {T : Type 0} (reads : T → Option (List ℕ)) (now : ℕ) (before after : Counts T) (old new : Seen)
+reading_wait : {T : Type 0} (reads : T → Option (List ℕ)) (now : ℕ) (before after : Counts T) (old new : PeerView)
     → HasCome reads now before after old new events.Wait → HasRead reads before.inner after.inner old new
 reading_wait reads now before after old new come =
     by_phase (HasRead reads before.inner after.inner old new) old.phase
@@ -46,11 +46,11 @@ reading_wait reads now before after old new come =
     (λ is. inr (inl (is, come.lingering is)))
     (λ is. inr (inr (is, (come.quiet is).0, ap (λ s. s.inner) (come.quiet is).1)))
 
-reading_wants : {T : Type 0} (reads : T → Option (List ℕ)) (now : ℕ) (before after : Counts T) (old new : Seen)
+reading_wants : {T : Type 0} (reads : T → Option (List ℕ)) (now : ℕ) (before after : Counts T) (old new : PeerView)
     → HasCome reads now before after old new events.Wait → old.phase ≡ phases.Reading → Wants new
 reading_wants reads now before after old new come is = (come.reading is).1
 
-reading_again : {T : Type 0} (reads : T → Option (List ℕ)) (now : ℕ) (before after : Counts T) (old new : Seen)
+reading_again : {T : Type 0} (reads : T → Option (List ℕ)) (now : ℕ) (before after : Counts T) (old new : PeerView)
     → HasCome reads now before after old new events.Again → HasRead reads before.inner after.inner old new
 reading_again reads now before after old new come =
     by_phase (HasRead reads before.inner after.inner old new) old.phase
@@ -58,11 +58,11 @@ reading_again reads now before after old new come =
     (λ is. inr (inl (is, come.lingering is)))
     (λ is. inr (inr (is, (come.quiet is).0, ap (λ s. s.inner) (come.quiet is).1)))
 
-abbrev Ends : {S : Type 0} → (S → Option (List ℕ)) → S → S → Seen → Seen → Type 0
+abbrev Ends : {S : Type 0} → (S → Option (List ℕ)) → S → S → PeerView → PeerView → Type 0
 Ends reads before after old new =
-    (between : Seen) × HasRead reads before after old between × (new ≡ closed between) × HasMore old
+    (between : PeerView) × HasRead reads before after old between × (new ≡ after_close between) × HasMore old
 
-reading_closed : {T : Type 0} (reads : T → Option (List ℕ)) (now : ℕ) (before after : Counts T) (old new : Seen)
+reading_closed : {T : Type 0} (reads : T → Option (List ℕ)) (now : ℕ) (before after : Counts T) (old new : PeerView)
     → HasCome reads now before after old new events.Closed → Ends reads before.inner after.inner old new
 reading_closed reads now before after old new come =
     by_phase (Ends reads before.inner after.inner old new) old.phase
@@ -70,13 +70,13 @@ reading_closed reads now before after old new come =
     (λ is. let c = come.lingering is in (c.0, inr (inl (is, c.1)), c.2, inl (ap is_quiet is)))
     (λ is. waits events.Closed (Ends reads before.inner after.inner old new) refl (come.quiet_event is))
 
-goes_read : {S : Type 0} (reads held : S → Option (List ℕ)) (before after : S) (old new : Seen) → HasRead reads before after old new
+goes_read : {S : Type 0} (reads held : S → Option (List ℕ)) (before after : S) (old new : PeerView) → HasRead reads before after old new
     → Goes reads held before after old new
 goes_read reads held before after old new read =
     record { mid = after; between = new; read = read; gives = gives_none (held after) new; idle = λ is. refl }
 
 -- the reads alone, where no write follows
-pub turns_read : {T : Type 0} (reads held : T → Option (List ℕ)) (now : ℕ) (before after : Counts T) (old new : Seen) (e : Event)
+pub turns_read : {T : Type 0} (reads held : T → Option (List ℕ)) (now : ℕ) (before after : Counts T) (old new : PeerView) (e : Event)
     → HasCome reads now before after old new e → Turns reads held now before.inner after.inner old new e
 turns_read reads held now before after old new events.Wait come = (
   goes_read reads held before.inner after.inner old new (reading_wait reads now before after old new come),
@@ -115,7 +115,7 @@ lingering_writes : phases.Lingering ≡ phases.Writing → ⊥
 lingering_writes is = cc
 
 -- a response is written only where nothing was read
-wrote_all : {S : Type 0} (reads held : S → Option (List ℕ)) (now : ℕ) (before mid after : S) (old between new : Seen)
+wrote_all : {S : Type 0} (reads held : S → Option (List ℕ)) (now : ℕ) (before mid after : S) (old between new : PeerView)
     → HasRead reads before mid old between → GivesAll now (held mid) (held after) between new
     → GivesAll now (held before) (held after) old new
 wrote_all {S = S} reads held now before mid after old between new read all =
@@ -123,13 +123,13 @@ wrote_all {S = S} reads held now before mid after old between new read all =
     (λ r. absurd (reading_writes (sym r.0 ∙ sym (phase_of_grown old between r.1.0 r.1.1) ∙ all.phase)))
     (λ rest. ⊎_elim
     (λ l. absurd (lingering_writes (sym l.0 ∙ sym (ap (λ s. s.phase) l.1.0) ∙ all.phase)))
-    (λ q. subst (λ (s : Seen). GivesAll now (held before) (held after) s new) q.1
+    (λ q. subst (λ (s : PeerView). GivesAll now (held before) (held after) s new) q.1
     (subst (λ (m : S). GivesAll now (held m) (held after) between new) q.2 all))
     rest)
     read
 
 -- something is read, or what is written now was to be written before
-had_more : {S : Type 0} (reads : S → Option (List ℕ)) (before mid : S) (old between : Seen) → HasRead reads before mid old between
+had_more : {S : Type 0} (reads : S → Option (List ℕ)) (before mid : S) (old between : PeerView) → HasRead reads before mid old between
     → wants_write between ≡ true → HasMore old
 had_more reads before mid old between read wants =
     ⊎_elim
@@ -138,7 +138,7 @@ had_more reads before mid old between read wants =
     read
 
 -- the reads, of which nothing came, and then the writes
-pub turns_written : {T : Type 0} (reads held : T → Option (List ℕ)) (now : ℕ) (before mid after : Counts T) (old between new : Seen)
+pub turns_written : {T : Type 0} (reads held : T → Option (List ℕ)) (now : ℕ) (before mid after : Counts T) (old between new : PeerView)
     (e : Event) → HasCome reads now before mid old between events.Wait → wants_write between ≡ true
     → GivesOn now (held mid.inner) (held after.inner) between new e → Turns reads held now before.inner after.inner old new e
 turns_written reads held now before mid after old between new events.Wait come wants gives = (
@@ -179,7 +179,7 @@ turns_written reads held now before mid after old between new events.Closed come
 -- ---- the turn of a client
 
 -- a response is owed where a request came or is refused
-pub owed : {S : Type 0} (reads held : S → Option (List ℕ)) (now : ℕ) (before after : S) (old new : Seen) (e : Event)
+pub owed : {S : Type 0} (reads held : S → Option (List ℕ)) (now : ℕ) (before after : S) (old new : PeerView) (e : Event)
     → Turns reads held now before after old new e → IsOwed new e
 owed reads held now before after old new events.Wait turns = tt
 owed reads held now before after old new events.Again turns = tt
@@ -207,9 +207,9 @@ turned_as {S = S} reads held now old new e turn turns is =
     subst (λ (t : Turn S). TurnsTo reads held now old t) (sym is) (turned reads held now old new e turns)
 
 -- the same, of the stream and the connection as they are seen before and behind it
-pub turns_as : {S : Type 0} (reads held : S → Option (List ℕ)) (now : ℕ) (first before last after : S) (inside old new : Seen) (e : Event)
+pub turns_as : {S : Type 0} (reads held : S → Option (List ℕ)) (now : ℕ) (first before last after : S) (inside old new : PeerView) (e : Event)
     → first ≡ before → last ≡ after → inside ≡ old → Turns reads held now first last inside new e → Turns reads held now before after old new e
 turns_as {S = S} reads held now first before last after inside old new e is_first is_last same turns =
     subst (λ (b : S). Turns reads held now b after old new e) is_first
     (subst (λ (a : S). Turns reads held now first a old new e) is_last
-    (subst (λ (o : Seen). Turns reads held now first last o new e) same turns))
+    (subst (λ (o : PeerView). Turns reads held now first last o new e) same turns))

@@ -7,7 +7,7 @@ use Rattle.streams.specs.declared.refused.Refused.TheVariants.{Core, ReadFailed}
 use Rattle.http_message.specs.Incoming.{Says}
 use Rattle.http_message.specs.Incoming as making
 use Rattle.http_message.specs.declared.received.Received.{Received}
-use Rattle.http_message.specs.declared.whole.Whole.{Whole}
+use Rattle.http_message.specs.declared.whole.WholeMessage.{WholeMessage}
 use Rattle.peers.specs.Calls.{IsRefusedAt}
 use Rattle.peers.specs.Exchange.{Exchange, Receives, Sends, Wants, is_writing}
 use Rattle.peers.specs.Outgoing.{Outgoing}
@@ -17,7 +17,7 @@ use Rattle.peers.specs.declared.call_turn.CallTurn.TheVariants as turns
 -- ---- a turn's end
 
 -- the response that came is whole
-abbrev pub IsWhole : {S : Type 0} → Outgoing S → Whole → Type 0
+abbrev pub IsWhole : {S : Type 0} → Outgoing S → WholeMessage → Type 0
 IsWhole c w = making.IsWhole c.exchange.came.most c.exchange.came.kind c.exchange.came.bytes w
 
 -- a response that is whole is given, unless memory runs out

@@ -5,11 +5,11 @@ use Rattle.std.specs.Io.KnownBytes.{Appends, Consumes}
 use Rattle.ticket_items.specs.declared.refusal.Refusal.TheVariants.{Memory}
 use Rattle.streams.specs.declared.refused.Refused.{Refused}
 use Rattle.streams.specs.declared.refused.Refused.TheVariants.{Core, ReadFailed}
-use Rattle.http_message.specs.Incoming.{Came, IsWanted, IsWhole}
+use Rattle.http_message.specs.Incoming.{IncomingView, IsWanted, IsWhole}
 use Rattle.http_message.specs.declared.kind.Kind.TheVariants as kinds
-use Rattle.http_message.specs.declared.wanted.Wanted.{Wanted}
+use Rattle.http_message.specs.declared.wanted.Need.{Need}
 use Rattle.peers.specs.Calls.{IsRefusedAt}
-use Rattle.peers.specs.Peer.{later}
+use Rattle.peers.specs.Peer.{moment_after}
 use Rattle.peers.specs.declared.call_limits.CallLimits.{CallLimits}
 use Rattle.peers.specs.declared.progress.Progress.{Progress}
 use Rattle.peers.specs.declared.progress.Progress.TheVariants as progresses
@@ -20,15 +20,15 @@ pub record Exchange : Type 0 where
   pub request : List ℕ
   pub done : ℕ
   pub writes : Bool
-  pub came : Came
+  pub came : IncomingView
   pub deadline : ℕ
 
 -- what was written of the request, and what wasn't yet
-abbrev pub sent : Exchange → List ℕ
-sent x = take x.done x.request
+abbrev pub sent_bytes : Exchange → List ℕ
+sent_bytes x = take x.done x.request
 
-abbrev pub unsent : Exchange → List ℕ
-unsent x = drop x.done x.request
+abbrev pub unsent_bytes : Exchange → List ℕ
+unsent_bytes x = drop x.done x.request
 
 -- the next turn writes
 abbrev pub is_writing : Exchange → Bool
@@ -39,22 +39,22 @@ abbrev pub kept_bytes : Exchange → ℕ
 kept_bytes x = min (length x.came.bytes + length x.request) (2 ^ 64 - 1)
 
 -- a request of which nothing was written, and no response came
-abbrev pub begun : List ℕ → CallLimits → ℕ → Exchange
-begun request limits now =
+abbrev pub new_exchange : List ℕ → CallLimits → ℕ → Exchange
+new_exchange request limits now =
     record {
       request = request;
       done = 0;
       writes = true;
       came = record { kind = kinds.Response; most = limits.body; bytes = []; looks = 0 };
-      deadline = later now limits.time;
+      deadline = moment_after now limits.time;
     }
 
 -- of the request what comes next was written, and nothing else
 pub record Sends (before after : Option (List ℕ)) (old new : Exchange) : Type 0 where
   pub piece : List ℕ
   pub given : Appends before after piece
-  pub front : unsent old ≡ piece ++ unsent new
-  pub behind : sent new ≡ sent old ++ piece
+  pub front : unsent_bytes old ≡ piece ++ unsent_bytes new
+  pub behind : sent_bytes new ≡ sent_bytes old ++ piece
   pub left : new ≡ record old { done = old.done + length piece; writes = new.writes }
 
 -- so much more came of the response
@@ -68,7 +68,7 @@ pub record Receives (before after : Option (List ℕ)) (old new : Exchange) : Ty
 
 -- more is wanted of the response
 abbrev pub Wants : Exchange → Type 0
-Wants x = (w : Wanted) × IsWanted x.came.most x.came.kind x.came.bytes w
+Wants x = (w : Need) × IsWanted x.came.most x.came.kind x.came.bytes w
 
 -- why there is no response: what came is refused, or a read failed; or memory ran out, and what was
 -- read then is lost

@@ -9,12 +9,12 @@ use std::marker::Model;
 
 /// A client to whom a response is owed.
 #[derive(Drop)]
-pub struct Asked<S> {
+pub struct OwedClient<S> {
     peer: Peer,
     stream: S,
 }
 
-impl<S> Model for Asked<S> {
+impl<S> Model for OwedClient<S> {
     ghost use Rattle.std.specs.Prelude.{◌≡◌};
     ghost use Rattle.peers.specs.Client.{Connection};
     ghost use Rattle.peers.specs.declared.phase.Phase.TheVariants as phases;
@@ -29,13 +29,13 @@ impl<S> Model for Asked<S> {
     ghost invariant = { λ a. a.peer.phase ≡ phases.Waiting };
 }
 
-impl<S> Asked<S> {
+impl<S> OwedClient<S> {
     /// One that waits.
-    pub(crate) fn of(peer: Peer, stream: S) -> Asked<S>
+    pub(crate) fn of(peer: Peer, stream: S) -> OwedClient<S>
         requires { peer.phase ≡ phases.Waiting }
         ensures { result ≡ record { peer = peer; stream = stream } }
     {
-        Asked { peer, stream }
+        OwedClient { peer, stream }
     }
 
     /// The moment, in milliseconds, until which it waits.
@@ -47,27 +47,27 @@ impl<S> Asked<S> {
     }
 
     /// How many bytes are kept of it: of its request, and of what is written to it.
-    pub fn held(&self) -> usize
+    pub fn held_bytes(&self) -> usize
         ensures { result ≡ peers.kept_bytes self.now.peer }
     {
-        self.peer.held()
+        self.peer.held_bytes()
     }
 }
 
-impl<S: Drop> Asked<S> {
+impl<S: Drop> OwedClient<S> {
     /// Takes its response, whole, at this moment. Where memory runs out for that, the client is
     /// closed.
     pub fn answer(self, response: &[u8], now: u64) -> Result<Client<S>, AllocError>
         // Proved: To what owes a response, and to that alone, one can be given, whole.
-        // By `ok`, `out`; `Asked::invariant`.
+        // By `ok`, `out`; `OwedClient::invariant`.
         ensures ok { IfOk result (λ c. c ≡ record {
-          peer = peers.responded response.now now self.peer;
+          peer = peers.with_response_out response.now now self.peer;
           stream = self.stream;
         }) }
         ensures out { IfOk result
             (λ c. c.peer.out ≡ peers.interim self.peer.asked ++ response.now) }
     {
-        let Asked { mut peer, stream } = self;
+        let OwedClient { mut peer, stream } = self;
         peer.respond(response, now)?;
         Ok(Client::of(peer, stream))
     }

@@ -9,7 +9,7 @@ use crate::call_turn::CallTurn;
 use crate::client::MAX_CALLS;
 use crate::exchange::Exchange;
 use crate::progress::Progress;
-use http_message::Whole;
+use http_message::WholeMessage;
 use std::alloc::Global;
 use std::io::{Read, Write};
 use std::marker::Model;
@@ -73,7 +73,7 @@ impl<S> Call<S> {
         // From its deadline on it doesn't go on, and after either there is no call.
         // By `Call::advance`.
         ensures { result ≡ record {
-          exchange = exchanges.begun request.items limits now;
+          exchange = exchanges.new_exchange request.items limits now;
           stream = stream;
         } }
     {
@@ -91,12 +91,12 @@ impl<S> Call<S> {
     }
 
     /// How many bytes are kept of it: its request, and what came of its response.
-    pub fn held(&self) -> usize
+    pub fn held_bytes(&self) -> usize
         // Proved: How many bytes are kept of a call, its deadline and its stream are told.
         // By `Call::deadline`, `Call::stream`.
         ensures { result ≡ exchanges.kept_bytes self.now.exchange }
     {
-        self.exchange.held()
+        self.exchange.held_bytes()
     }
 
     /// Its stream.
@@ -109,7 +109,7 @@ impl<S> Call<S> {
 
 impl<S: Drop> Call<S> {
     /// The response, which is whole.
-    fn end(self, alloc: Global, whole: Whole) -> CallTurn<S>
+    fn end(self, alloc: Global, whole: WholeMessage) -> CallTurn<S>
         requires { calls.IsWhole self whole }
         ensures { calls.Ends self result }
     {

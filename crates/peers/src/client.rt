@@ -8,7 +8,7 @@ ghost use Rattle.peers.specs.Turn as turned;
 ghost use Rattle.peers.specs.declared.event.Event.TheVariants as events;
 ghost use Rattle.peers.specs.declared.phase.Phase.TheVariants as phases;
 
-use crate::asked::Asked;
+use crate::asked::OwedClient;
 use crate::event::Event;
 use crate::limits::Limits;
 use crate::peer::Peer;
@@ -112,8 +112,8 @@ fn turn_of<S: Drop>(peer: Peer, stream: S, event: Event) -> Turn<S>
     match event {
         Event::Wait => Turn::Wait(Client { peer, stream }),
         Event::Again => Turn::Again(Client { peer, stream }),
-        Event::Request(request) => Turn::Request(Asked::of(peer, stream), request),
-        Event::Refused(refused) => Turn::Refused(Asked::of(peer, stream), refused),
+        Event::Request(request) => Turn::Request(OwedClient::of(peer, stream), request),
+        Event::Refused(refused) => Turn::Refused(OwedClient::of(peer, stream), refused),
         Event::Written => Turn::Written(Client { peer, stream }),
         Event::Closed => {
             drop(peer);
@@ -126,7 +126,7 @@ fn turn_of<S: Drop>(peer: Peer, stream: S, event: Event) -> Turn<S>
 impl<S> Client<S> {
     /// A client that was accepted at this moment, in milliseconds.
     pub fn new(alloc: Global, limits: Limits, stream: S, now: u64) -> Client<S>
-        ensures { result ≡ record { peer = peers.accepted limits now; stream = stream } }
+        ensures { result ≡ record { peer = peers.new_peer limits now; stream = stream } }
     {
         Client::of(Peer::new(alloc, limits, now), stream)
     }
@@ -146,12 +146,13 @@ impl<S> Client<S> {
     }
 
     /// How many bytes are kept of it: of its request, and of what is written to it.
-    pub fn held(&self) -> usize
+    pub fn held_bytes(&self) -> usize
         // Proved: How many bytes are kept of a connection, and its deadline, are told.
-        // By `Client::deadline`, `Asked::held`; `Asked::deadline`: `value`, `waits`; `Peer::held`.
+        // By `Client::deadline`, `OwedClient::held_bytes`; `OwedClient::deadline`: `value`,
+        // `waits`; `Peer::held_bytes`.
         ensures { result ≡ peers.kept_bytes self.now.peer }
     {
-        self.peer.held()
+        self.peer.held_bytes()
     }
 
     /// Its stream.

@@ -7,7 +7,7 @@ ghost use Rattle.peers.specs.Exchange as exchanges;
 use crate::call_limits::CallLimits;
 use crate::progress::Progress;
 use crate::writing::write_some;
-use http_message::{Arrival, Incoming, Kind, Received, Standing, Wanted, Whole};
+use http_message::{Arrival, Incoming, Kind, Need, Received, Standing, WholeMessage};
 use std::alloc::{AllocError, Global};
 use std::io::{ErrorKind, Read, Write};
 use std::marker::Model;
@@ -44,7 +44,7 @@ impl Model for Exchange {
 impl Exchange {
     /// A request of which nothing was written at this moment.
     pub fn new(alloc: Global, request: Vec<u8>, limits: CallLimits, now: u64) -> Exchange
-        ensures { result ≡ exchanges.begun request.items limits now }
+        ensures { result ≡ exchanges.new_exchange request.items limits now }
     {
         Exchange {
             request,
@@ -63,7 +63,7 @@ impl Exchange {
     }
 
     /// How many bytes are kept of it.
-    pub fn held(&self) -> usize
+    pub fn held_bytes(&self) -> usize
         ensures { result ≡ exchanges.kept_bytes self.now }
     {
         self.incoming
@@ -109,7 +109,7 @@ impl Exchange {
         &mut self,
         stream: &mut Counted<T>,
         buffer: &mut [u8],
-        wanted: &Wanted,
+        wanted: &Need,
     ) -> Result<Progress, AllocError>
         requires buffer { 0 < length buffer.old }
         requires wanted { IsWanted self.old.came.most self.old.came.kind self.old.came.bytes
@@ -147,7 +147,7 @@ impl Exchange {
     }
 
     /// The response, which is whole.
-    pub fn into_received(self, alloc: Global, whole: Whole) -> Result<Received, AllocError>
+    pub fn into_received(self, alloc: Global, whole: WholeMessage) -> Result<Received, AllocError>
         requires { IsWhole self.came.most self.came.kind self.came.bytes whole }
         ensures { IfOk result (λ r. Says self.came.most self.came.kind self.came.bytes r.status
             r.method r.head.items r.target.items r.body) }

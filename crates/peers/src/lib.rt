@@ -17,7 +17,7 @@ mod progress;
 mod turn;
 mod writing;
 
-pub use asked::Asked;
+pub use asked::OwedClient;
 pub use call::Call;
 pub use call_limits::CallLimits;
 pub use call_turn::CallTurn;

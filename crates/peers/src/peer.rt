@@ -11,7 +11,7 @@ use crate::event::Event;
 use crate::limits::Limits;
 use crate::phase::Phase;
 use crate::writing::write_some;
-use http_message::{Arrival, Incoming, Kind, Standing, Wanted, Whole};
+use http_message::{Arrival, Incoming, Kind, Need, Standing, WholeMessage};
 use std::alloc::{AllocError, Global};
 use std::io::{ErrorKind, Read, Write};
 use std::marker::Model;
@@ -36,9 +36,9 @@ pub struct Peer {
 }
 
 impl Model for Peer {
-    ghost use Rattle.peers.specs.Peer.{IsPeer, Seen};
+    ghost use Rattle.peers.specs.Peer.{IsPeer, PeerView};
 
-    ghost Value = { Seen };
+    ghost Value = { PeerView };
 
     ghost view = { λ p. record {
       limits = p.limits;
@@ -61,7 +61,7 @@ impl Peer {
         // as what its own bytes carry; from then on it reads nothing until its response was
         // written.
         // By `Peer::on_readable`: `reading`, `quiet`; `Peer::phase`.
-        ensures { result ≡ peers.accepted limits now }
+        ensures { result ≡ peers.new_peer limits now }
     {
         Peer {
             limits,
@@ -97,7 +97,7 @@ impl Peer {
     }
 
     /// How many bytes are kept of it: of its request, and of what is written to it.
-    pub fn held(&self) -> usize
+    pub fn held_bytes(&self) -> usize
         ensures { result ≡ peers.kept_bytes self.now }
     {
         self.incoming
@@ -126,7 +126,7 @@ impl Peer {
         // Proved: The interim response is given where the head asks for it, once, and before the
         // response; else nothing is written until a response was given.
         // By `ok`, `out`, `err`; `Peer::on_readable`: `reading`, `unanswered`; `Peer::invariant`.
-        ensures ok { OnOk result (self.new ≡ peers.responded response.now now self.old) }
+        ensures ok { OnOk result (self.new ≡ peers.with_response_out response.now now self.old) }
         ensures out { OnOk result (self.new.out ≡ peers.interim self.old.asked ++ response.now) }
         ensures err { OnErr result (self.new ≡ self.old) }
     {
@@ -138,7 +138,7 @@ impl Peer {
 
     /// Closes it.
     fn close(&mut self)
-        ensures { self.new ≡ peers.closed self.old }
+        ensures { self.new ≡ peers.after_close self.old }
     {
         self.phase = Phase::Closed;
     }
@@ -196,14 +196,14 @@ impl Peer {
     /// Waits for its step from now on.
     fn wait(&mut self, now: u64)
         requires { self.old.phase ≡ phases.Reading }
-        ensures { self.new ≡ peers.waiting now self.old }
+        ensures { self.new ≡ peers.while_waiting now self.old }
     {
         self.phase = Phase::Waiting;
         self.deadline = now.saturating_add(self.limits.step);
     }
 
     /// Hands out the request, which is whole.
-    fn hand_out(&mut self, alloc: Global, whole: Whole, now: u64) -> Event
+    fn hand_out(&mut self, alloc: Global, whole: WholeMessage, now: u64) -> Event
         requires phase { self.old.phase ≡ phases.Reading }
         requires whole { IsWhole self.old.came.most self.old.came.kind self.old.came.bytes whole }
         ensures { peers.Decides now self.old self.new result }
@@ -222,7 +222,7 @@ impl Peer {
         &mut self,
         stream: &mut Counted<T>,
         buffer: &mut [u8],
-        wanted: &Wanted,
+        wanted: &Need,
         now: u64,
     ) -> Result<Event, AllocError>
         requires buffer { 0 < length buffer.old }

@@ -1,4 +1,4 @@
-use http_message::Whole;
+use http_message::WholeMessage;
 use streams::Refused;
 
 /// How far the reads of a response came.
@@ -9,7 +9,7 @@ pub(crate) enum Progress {
     /// More may be there.
     Again,
     /// It is whole.
-    Whole(Whole),
+    Whole(WholeMessage),
     /// It won't come, for this reason.
     Failed(Refused),
 }

@@ -1,4 +1,4 @@
-use crate::asked::Asked;
+use crate::asked::OwedClient;
 use crate::client::Client;
 use http_message::Received;
 use streams::Refused;
@@ -11,9 +11,9 @@ pub enum Turn<S> {
     /// It may have more, and is to have another turn.
     Again(Client<S>),
     /// Its request came, and a response is owed.
-    Request(Asked<S>, Received),
+    Request(OwedClient<S>, Received),
     /// Its request is refused, and a response is owed.
-    Refused(Asked<S>, Refused),
+    Refused(OwedClient<S>, Refused),
     /// Its response was written whole. The writing half of its stream is to be closed.
     Written(Client<S>),
     /// It is at its end, and its stream is closed.

@@ -33,10 +33,10 @@ abbrev pub is_destination : Parts → Bool
 is_destination url = is_plain url && fits_head url
 
 -- what was parsed, if it is a URL and a message can be sent there
-abbrev pub sendable : Parsed Parts → Option Parts
-sendable (Ok url) = if is_destination url then Some url else None
-sendable (Err e) = None
+abbrev pub sendable_parts : Parsed Parts → Option Parts
+sendable_parts (Ok url) = if is_destination url then Some url else None
+sendable_parts (Err e) = None
 
 -- the URL that a text is, if a message can be sent there
 abbrev pub destination_in : List ℕ → Option Parts
-destination_in text = sendable (parse_url None text)
+destination_in text = sendable_parts (parse_url None text)

@@ -11,7 +11,7 @@ use Rattle.serde_json.specs.Data.{Data}
 use Rattle.ticket_items.specs.Attrs.{Pairs}
 use Rattle.ticket_items.specs.declared.refusal.Refusal.{Refusal}
 use Rattle.ticket_items.specs.declared.refusal.Refusal.TheVariants.{NotProfile}
-use Rattle.json_source.specs.Read.{◌>>=◌, attrs_draft}
+use Rattle.json_source.specs.Read.{◌>>=◌, attrs_form}
 use Rattle.url.specs.Parts.{Parts}
 use Rattle.peers_file.specs.Destination.{destination_in}
 use Rattle.peers_file.specs.Pattern.{Fits, TellsMore, front_pattern, is_pattern}
@@ -41,7 +41,7 @@ rows_in (p ∷ ps) = row_in p >>= λ row. option_map (λ rows. row ∷ rows) (ro
 
 -- the table that data is: an object of patterns and URLs
 abbrev pub table_read : Data → Result Rows Refusal
-table_read d = option_map_or (λ rows. Ok rows) (attrs_draft d >>= rows_in) (Err NotProfile)
+table_read d = option_map_or (λ rows. Ok rows) (attrs_form d >>= rows_in) (Err NotProfile)
 
 -- ---- what is found
 

@@ -1,7 +1,7 @@
 //! From bytes to the table of peers.
 
 ghost use Rattle.std.specs.Prelude.{Ok, IfOk, IfErr};
-ghost use Rattle.json_items.specs.Judged.{Answers};
+ghost use Rattle.json_items.specs.Validation.{Answers};
 ghost use Rattle.json_profile.specs.ReadAs.{IsReadAs, IsRefusalOf};
 ghost use Rattle.peers_file.specs.Table.{table_read};
 

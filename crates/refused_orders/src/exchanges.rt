@@ -4,7 +4,7 @@ use http_edge::{Counted, serve_one};
 use keepers::MemoryKeep;
 use std::alloc::{AllocError, Global};
 use std::io::{self, Write};
-use stored_state::{Kept, Stored};
+use stored_state::{Kept, StoredController};
 use streams::{Refused, refused_line};
 
 /// How long a response may be.
@@ -25,7 +25,7 @@ fn request(alloc: Global, message: &[u8]) -> Result<Vec<u8>, AllocError> {
 }
 
 /// Writes the response to a request, once `Prepared` is written, if that is wanted.
-fn write_response<C: Stored, W: Write>(
+fn write_response<C: StoredController, W: Write>(
     alloc: Global,
     writer: &mut W,
     kept: &mut Beside<C>,
@@ -45,7 +45,7 @@ fn write_response<C: Stored, W: Write>(
 }
 
 /// Writes the response to a message, and to the same once more when the state is loaded again.
-fn write_responses<C: Stored, W: Write>(
+fn write_responses<C: StoredController, W: Write>(
     alloc: Global,
     writer: &mut W,
     kept: &mut Beside<C>,
@@ -60,7 +60,7 @@ fn write_responses<C: Stored, W: Write>(
 }
 
 /// Writes the lines for a message to a controller whose state is there.
-pub fn write_lines<C: Stored, W: Write>(
+pub fn write_lines<C: StoredController, W: Write>(
     alloc: Global,
     writer: &mut W,
     state: &[u8],

@@ -4,7 +4,7 @@ use crate::ordered::Ordered;
 use keepers::MemoryKeep;
 use std::alloc::Global;
 use std::io::{self, Write};
-use stored_state::{Kept, OrderBytes, Stored};
+use stored_state::{Kept, OrderBytes, StoredController};
 use streams::{Refused, refused_line};
 use ticket_items::Refusal;
 
@@ -30,7 +30,7 @@ fn told_line(told: Result<OrderBytes, Refused>) -> &'static str {
 }
 
 /// The line for an order to a controller.
-fn line_of<C: Stored>(
+fn line_of<C: StoredController>(
     alloc: Global,
     kept: &mut Beside<C>,
     order: Result<C::Order, Refusal>,
@@ -42,7 +42,7 @@ fn line_of<C: Stored>(
 }
 
 /// Writes the text of the state of the controller that is shown.
-fn write_shown<C: Stored, W: Write>(
+fn write_shown<C: StoredController, W: Write>(
     alloc: Global,
     writer: &mut W,
     kept: &Beside<C>,
@@ -53,7 +53,7 @@ fn write_shown<C: Stored, W: Write>(
 }
 
 /// Writes the text of the state that is held, which is loaded for it.
-fn write_held<C: Stored, W: Write>(
+fn write_held<C: StoredController, W: Write>(
     alloc: Global,
     writer: &mut W,
     kept: &mut Beside<C>,

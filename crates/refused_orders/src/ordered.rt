@@ -4,12 +4,12 @@ use controller_form::{master_order_of, worker_order_of};
 use json_source::{Scratch, tree_of};
 use master_core::Master;
 use std::alloc::Global;
-use stored_state::Stored;
+use stored_state::StoredController;
 use ticket_items::Refusal;
 use worker_core::Worker;
 
 /// A controller of which orders are read.
-pub trait Ordered: Stored {
+pub trait Ordered: StoredController {
     /// The order that a text is.
     fn order_in(alloc: Global, text: &[u8]) -> Result<Self::Order, Refusal>;
 }

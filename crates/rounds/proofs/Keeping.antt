@@ -8,54 +8,54 @@ use Rattle.std.specs.String.{string_eq}
 use Rattle.std.proofs.lemmas.Slice.Eq.{bytes_eq-Decides}
 use Rattle.lru.specs.LruCache.{LruCache, lru_cache, put_entries}
 use Rattle.stored_state.specs.declared.any_controller.AnyController.{AnyController}
-use Rattle.rounds.specs.Kept.{IsFront, IsUnique, kept_for, others}
+use Rattle.rounds.specs.Kept.{IsFront, IsUnique, controller_of_path, other_paths}
 
 -- ---- the others of a path
 
-none_other : (q path : List ℕ) (kept : List (String Global × AnyController)) → kept_for q kept ≡ None → kept_for q (others path kept) ≡ None
+none_other : (q path : List ℕ) (kept : List (String Global × AnyController)) → controller_of_path q kept ≡ None → controller_of_path q (other_paths path kept) ≡ None
 none_other q path [] none = refl
 none_other q path (e ∷ kept) none =
-    (elim (bytes_eq q (string_bytes e.0)) as (λ b. bytes_eq q (string_bytes e.0) ≡ b → kept_for q (others path (e ∷ kept)) ≡ None) [
+    (elim (bytes_eq q (string_bytes e.0)) as (λ b. bytes_eq q (string_bytes e.0) ≡ b → controller_of_path q (other_paths path (e ∷ kept)) ≡ None) [
       | true ↦ λ is. let h = rw is at none in cc
-      | false ↦ λ is. let h : kept_for q kept ≡ None = rw is at none in
-          (elim (bytes_eq path (string_bytes e.0)) as (λ b. kept_for q (cond b kept (e ∷ others path kept)) ≡ None) [
+      | false ↦ λ is. let h : controller_of_path q kept ≡ None = rw is at none in
+          (elim (bytes_eq path (string_bytes e.0)) as (λ b. controller_of_path q (cond b kept (e ∷ other_paths path kept)) ≡ None) [
             | true ↦ h
             | false ↦ rw is (none_other q path kept h)
           ])
     ]) refl
 
-pub others_unique : (path : List ℕ) (kept : List (String Global × AnyController)) → IsUnique kept → IsUnique (others path kept)
+pub others_unique : (path : List ℕ) (kept : List (String Global × AnyController)) → IsUnique kept → IsUnique (other_paths path kept)
 others_unique path [] u = u
 others_unique path (e ∷ kept) u =
-    elim (bytes_eq path (string_bytes e.0)) as (λ b. IsUnique (cond b kept (e ∷ others path kept))) [
+    elim (bytes_eq path (string_bytes e.0)) as (λ b. IsUnique (cond b kept (e ∷ other_paths path kept))) [
       | true ↦ u.1
       | false ↦ (none_other (string_bytes e.0) path kept u.0, others_unique path kept u.1)
     ]
 
 -- nothing is kept for the path itself
-pub none_left : (path : List ℕ) (kept : List (String Global × AnyController)) → IsUnique kept → kept_for path (others path kept) ≡ None
+pub none_left : (path : List ℕ) (kept : List (String Global × AnyController)) → IsUnique kept → controller_of_path path (other_paths path kept) ≡ None
 none_left path [] u = refl
 none_left path (e ∷ kept) u =
-    (elim (bytes_eq path (string_bytes e.0)) as (λ b. bytes_eq path (string_bytes e.0) ≡ b → kept_for path (cond b kept (e ∷ others path kept)) ≡ None) [
-      | true ↦ λ is. subst (λ (q : List ℕ). kept_for q kept ≡ None) (sym ((bytes_eq-Decides path (string_bytes e.0)).0 is)) u.0
+    (elim (bytes_eq path (string_bytes e.0)) as (λ b. bytes_eq path (string_bytes e.0) ≡ b → controller_of_path path (cond b kept (e ∷ other_paths path kept)) ≡ None) [
+      | true ↦ λ is. subst (λ (q : List ℕ). controller_of_path q kept ≡ None) (sym ((bytes_eq-Decides path (string_bytes e.0)).0 is)) u.0
       | false ↦ λ is. rw is (none_left path kept u.1)
     ]) refl
 
 -- where nothing is kept for a path, the others are all
-pub all_others : (path : List ℕ) (kept : List (String Global × AnyController)) → kept_for path kept ≡ None → others path kept ≡ kept
+pub all_others : (path : List ℕ) (kept : List (String Global × AnyController)) → controller_of_path path kept ≡ None → other_paths path kept ≡ kept
 all_others path [] none = refl
 all_others path (e ∷ kept) none =
-    (elim (bytes_eq path (string_bytes e.0)) as (λ b. bytes_eq path (string_bytes e.0) ≡ b → others path (e ∷ kept) ≡ e ∷ kept) [
+    (elim (bytes_eq path (string_bytes e.0)) as (λ b. bytes_eq path (string_bytes e.0) ≡ b → other_paths path (e ∷ kept) ≡ e ∷ kept) [
       | true ↦ λ is. let h = rw is at none in cc
       | false ↦ λ is. rw is (ap (λ es. e ∷ es) (all_others path kept (rw is at none)))
     ]) refl
 
 -- ---- a front
 
-none_front : (q : List ℕ) (new gone : List (String Global × AnyController)) → kept_for q (new ++ gone) ≡ None → kept_for q new ≡ None
+none_front : (q : List ℕ) (new gone : List (String Global × AnyController)) → controller_of_path q (new ++ gone) ≡ None → controller_of_path q new ≡ None
 none_front q [] gone none = refl
 none_front q (e ∷ new) gone none =
-    (elim (bytes_eq q (string_bytes e.0)) as (λ b. bytes_eq q (string_bytes e.0) ≡ b → kept_for q (e ∷ new) ≡ None) [
+    (elim (bytes_eq q (string_bytes e.0)) as (λ b. bytes_eq q (string_bytes e.0) ≡ b → controller_of_path q (e ∷ new) ≡ None) [
       | true ↦ λ is. let h = rw is at none in cc
       | false ↦ λ is. rw is (none_front q new gone (rw is at none))
     ]) refl
@@ -85,7 +85,7 @@ front_less new mid old n front u is =
 
 -- ---- what is put
 
-no_entry : (path : String Global) (kept : List (String Global × AnyController)) → kept_for (string_bytes path) kept ≡ None → lookup_entry (string_eq path) kept ≡ None
+no_entry : (path : String Global) (kept : List (String Global × AnyController)) → controller_of_path (string_bytes path) kept ≡ None → lookup_entry (string_eq path) kept ≡ None
 no_entry path [] none = refl
 no_entry path (e ∷ kept) none =
     (elim (bytes_eq (string_bytes path) (string_bytes e.0)) as (λ b. bytes_eq (string_bytes path) (string_bytes e.0) ≡ b → lookup_entry (string_eq path) (e ∷ kept) ≡ None) [
@@ -94,11 +94,11 @@ no_entry path (e ∷ kept) none =
     ]) refl
 
 -- what is put for a path for which nothing is kept goes first
-pub put_front : (path : String Global) (c : AnyController) (cache : LruCache (String Global) AnyController) → kept_for (string_bytes path) cache.entries ≡ None → IsFront (put_entries string_eq cache path c) ((path, c) ∷ cache.entries)
+pub put_front : (path : String Global) (c : AnyController) (cache : LruCache (String Global) AnyController) → controller_of_path (string_bytes path) cache.entries ≡ None → IsFront (put_entries string_eq cache path c) ((path, c) ∷ cache.entries)
 put_front path c cache none =
     rw (no_entry path cache.entries none)
     (let rest = front_take (cache.cap - 1) cache.entries in (rest.0, ap (λ es. (path, c) ∷ es) rest.1))
 
-pub put_first : (path : String Global) (c : AnyController) (cache new : LruCache (String Global) AnyController) (cap : ℕ) → kept_for (string_bytes path) cache.entries ≡ None → new ≡ lru_cache (put_entries string_eq cache path c) cap → IsFront new.entries ((path, c) ∷ cache.entries)
+pub put_first : (path : String Global) (c : AnyController) (cache new : LruCache (String Global) AnyController) (cap : ℕ) → controller_of_path (string_bytes path) cache.entries ≡ None → new ≡ lru_cache (put_entries string_eq cache path c) cap → IsFront new.entries ((path, c) ∷ cache.entries)
 put_first path c cache new cap none is =
     subst (λ (s : LruCache (String Global) AnyController). IsFront s.entries ((path, c) ∷ cache.entries)) (sym is) (put_front path c cache none)

@@ -7,18 +7,18 @@ use Rattle.std.specs.Str.{bytes_eq}
 use Rattle.stored_state.specs.declared.any_controller.AnyController.{AnyController}
 
 -- the controller that is kept for a path
-abbrev pub kept_for : List ℕ → List (String Global × AnyController) → Option AnyController
-kept_for path kept = lookup (λ k. bytes_eq path (string_bytes k)) kept
+abbrev pub controller_of_path : List ℕ → List (String Global × AnyController) → Option AnyController
+controller_of_path path kept = lookup (λ k. bytes_eq path (string_bytes k)) kept
 
 -- what is kept of the other paths
-abbrev pub others :
+abbrev pub other_paths :
     List ℕ → List (String Global × AnyController) → List (String Global × AnyController)
-others path kept = remove_entry (λ k. bytes_eq path (string_bytes k)) kept
+other_paths path kept = remove_entry (λ k. bytes_eq path (string_bytes k)) kept
 
 -- nothing is kept twice
 abbrev pub IsUnique : List (String Global × AnyController) → Type 0
 IsUnique [] = ⊤
-IsUnique (e ∷ kept) = (kept_for (string_bytes e.0) kept ≡ None) × IsUnique kept
+IsUnique (e ∷ kept) = (controller_of_path (string_bytes e.0) kept ≡ None) × IsUnique kept
 
 -- the last of them went, or none
 abbrev pub IsFront :
@@ -30,5 +30,5 @@ IsFront new old = (gone : List (String Global × AnyController)) × (old ≡ new
 abbrev pub Keeps : String Global → AnyController → List (String Global × AnyController)
     → List (String Global × AnyController) → Type 0
 Keeps path c old new =
-    IsFront new ((path, c) ∷ others (string_bytes path) old)
-    ⊎ (new ≡ others (string_bytes path) old)
+    IsFront new ((path, c) ∷ other_paths (string_bytes path) old)
+    ⊎ (new ≡ other_paths (string_bytes path) old)

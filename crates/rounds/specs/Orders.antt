@@ -6,16 +6,16 @@ use Rattle.std.specs.Result.{result_ok}
 use Rattle.ticket_items.specs.Refusal.{holder_of, name_of, number_of}
 use Rattle.ticket_items.specs.SpawnId.{spawn_text}
 use Rattle.ticket_items.specs.declared.refusal.Refusal.{Refusal}
-use Rattle.controller.specs.Reply.{spawn_told, word_of}
+use Rattle.controller.specs.Reply.{spawn_of_reply, word_of}
 use Rattle.controller.specs.declared.reply.Reply.{Reply}
 use Rattle.streams.specs.declared.refused.Refused.{Refused}
 use Rattle.streams.specs.declared.refused.Refused.TheVariants.{Core}
 use Rattle.http_message.specs.Texts.{refusal_body, served_text}
-use Rattle.http_edge.specs.Exchange.{told_of}
+use Rattle.http_edge.specs.Exchange.{served_of}
 use Rattle.stored_state.specs.declared.taken_bytes.TakenBytes.{TakenBytes}
 use Rattle.rounds.specs.Line.{with_response}
-use Rattle.rounds.specs.declared.orders.Ordered.{Ordered}
-use Rattle.rounds.specs.declared.waiting.Waiting.{Waiting}
+use Rattle.rounds.specs.declared.orders.AnsweredOperator.{AnsweredOperator}
+use Rattle.rounds.specs.declared.waiting.WaitingClient.{WaitingClient}
 
 -- a word, and the spawn that is told beside it if one is, as JSON
 abbrev pub word_body : List ℕ → Option ℕ → List ℕ
@@ -36,7 +36,7 @@ refused_body e =
 
 -- what tells what a controller replied to an order, or why it refused that, as JSON
 abbrev pub order_body : Result Reply Refusal → List ℕ
-order_body (Ok reply) = word_body (word_of reply) (spawn_told reply)
+order_body (Ok reply) = word_body (word_of reply) (spawn_of_reply reply)
 order_body (Err e) = refused_body e
 
 -- what an order of which this came is answered with, or why there is no step
@@ -51,9 +51,9 @@ reply_to (Err e) = None
 
 -- who waited has, under the same number, the response to what came of the order, unless memory ran
 -- out for that; and what is told is the same
-pub record HasReply {S : Type 0} (now : ℕ) (came : Result TakenBytes Refused) (w : Waiting S)
-    (o : Ordered S) : Type 0 where
+pub record HasReply {S : Type 0} (now : ℕ) (came : Result TakenBytes Refused) (w : WaitingClient S)
+    (o : AnsweredOperator S) : Type 0 where
   pub same : o.key ≡ w.key
   pub response : IfSome o.client (λ c. c ≡ with_response (served_text (answer_to came)) now w.asked)
-  pub told : o.told ≡ told_of came
+  pub told : o.told ≡ served_of came
   pub reply : o.reply ≡ reply_to came

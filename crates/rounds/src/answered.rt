@@ -4,13 +4,13 @@ ghost use Rattle.http_message.specs.Texts.{answer_of};
 ghost use Rattle.rounds.specs.Line as line;
 ghost use Rattle.rounds.specs.Line.{IsAnswered};
 
-use crate::taken_from::TakenFrom;
-use crate::told::{Told, told_of};
-use crate::waiting::Waiting;
+use crate::receipt::Receipt;
+use crate::recipient::{Recipient, served_of};
+use crate::waiting::WaitingClient;
 use controller::Reply;
 use http_edge::Served;
 use http_message::served_bytes;
-use peers::{Asked, Client};
+use peers::{Client, OwedClient};
 use std::alloc::Global;
 use stored_state::TakenBytes;
 use streams::Refused;
@@ -18,7 +18,7 @@ use ticket_items::{Id, Refusal};
 
 /// A client who has the response to a request.
 #[derive(Drop)]
-pub struct Answered<S> {
+pub struct AnsweredClient<S> {
     /// Under which number the client is kept.
     pub key: usize,
     /// The client; none where memory ran out for the response, and then it is closed.
@@ -26,22 +26,22 @@ pub struct Answered<S> {
     /// What is told of the request.
     pub told: Served,
     /// What its message was taken as and from whom, if it was taken.
-    pub taken: Option<TakenFrom>,
+    pub taken: Option<Receipt>,
 }
 
 /// What a message from this sender was taken as, if it was.
-fn reply_from(sender: Option<Id>, reply: Result<Reply, Refusal>) -> Option<TakenFrom>
+fn reply_from(sender: Option<Id>, reply: Result<Reply, Refusal>) -> Option<Receipt>
     ensures { result ≡ line.reply_from sender reply }
 {
     match (sender, reply) {
-        (Some(sender), Ok(reply)) => Some(TakenFrom { reply, sender }),
+        (Some(sender), Ok(reply)) => Some(Receipt { reply, sender }),
         _ => None,
     }
 }
 
 /// What a message was taken as and from whom, if it was.
-fn taken_of(came: Result<TakenBytes, Refused>) -> Option<TakenFrom>
-    ensures { result ≡ line.taken_of came }
+fn sender_of(came: Result<TakenBytes, Refused>) -> Option<Receipt>
+    ensures { result ≡ line.sender_of came }
 {
     match came {
         Ok(taken) => {
@@ -70,20 +70,20 @@ fn answer_in(came: &Result<TakenBytes, Refused>) -> Result<Option<&[u8]>, Refuse
     }
 }
 
-impl<S: Drop> Told<S> for Answered<S> {
+impl<S: Drop> Recipient<S> for AnsweredClient<S> {
     ghost use Rattle.rounds.specs.Line.{HasAnswer};
 
     ghost is_told = { HasAnswer };
 
     fn tell(
         alloc: Global,
-        waiting: Waiting<S>,
+        waiting: WaitingClient<S>,
         came: Result<TakenBytes, Refused>,
         now: u64,
-    ) -> Answered<S>
+    ) -> AnsweredClient<S>
         ensures { HasAnswer now came waiting result }
     {
-        let Waiting { key, asked } = waiting;
+        let WaitingClient { key, asked } = waiting;
         let client = match served_bytes(alloc, &answer_in(&came)) {
             Ok(response) => asked.answer(response.as_slice(), now).ok(),
             Err(_) => {
@@ -91,11 +91,11 @@ impl<S: Drop> Told<S> for Answered<S> {
                 None
             }
         };
-        Answered {
+        AnsweredClient {
             key,
             client,
-            told: told_of(&came),
-            taken: taken_of(came),
+            told: served_of(&came),
+            taken: sender_of(came),
         }
     }
 }
@@ -104,11 +104,11 @@ impl<S: Drop> Told<S> for Answered<S> {
 pub fn refuse<S: Drop>(
     alloc: Global,
     key: usize,
-    asked: Asked<S>,
+    asked: OwedClient<S>,
     refused: Refused,
     now: u64,
-) -> Answered<S>
+) -> AnsweredClient<S>
     ensures { IsAnswered now (Err refused) key asked result }
 {
-    Answered::tell(alloc, Waiting { key, asked }, Err(refused), now)
+    AnsweredClient::tell(alloc, WaitingClient { key, asked }, Err(refused), now)
 }

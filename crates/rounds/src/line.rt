@@ -6,21 +6,21 @@ ghost use Rattle.rounds.specs.Line as line;
 ghost use Rattle.rounds.specs.Line.{AreTold, AreToldOf, TellsLine};
 
 use crate::errand::Errand;
+use crate::recipient::Recipient;
 use crate::room::Room;
-use crate::told::Told;
-use crate::waiting::Waiting;
+use crate::waiting::WaitingClient;
 use keepers::Keep;
 use std::alloc::Global;
-use stored_state::{Addressee, Coming, Saved, TakenBytes, take_all};
+use stored_state::{Addressee, Coming, SavedState, TakenBytes, take_all};
 use streams::Refused;
 use ticket_items::Refusal;
 
 /// Parts errands into those who wait and what has come.
-fn parted<S: Drop>(
+fn waiting_and_comings<S: Drop>(
     errands: Vec<Errand<S>>,
-    mut waiting: Vec<Waiting<S>>,
+    mut waiting: Vec<WaitingClient<S>>,
     mut comings: Vec<Coming>,
-) -> (Vec<Waiting<S>>, Vec<Coming>)
+) -> (Vec<WaitingClient<S>>, Vec<Coming>)
     requires no_waiting { waiting.items ≡ [] }
     requires no_comings { comings.items ≡ [] }
     requires waiting { length errands.items ≤ vec_capacity waiting }
@@ -36,9 +36,9 @@ fn parted<S: Drop>(
 }
 
 /// Refuses each of those who wait.
-fn refuse_all<S: Drop, A: Told<S>>(
+fn refuse_all<S: Drop, A: Recipient<S>>(
     alloc: Global,
-    waiting: Vec<Waiting<S>>,
+    waiting: Vec<WaitingClient<S>>,
     mut answered: Vec<A>,
     refused: Refused,
     now: u64,
@@ -55,7 +55,7 @@ fn refuse_all<S: Drop, A: Told<S>>(
 }
 
 /// Refuses each of those with an errand.
-pub fn refuse_errands<S: Drop, A: Told<S>>(
+pub fn refuse_errands<S: Drop, A: Recipient<S>>(
     alloc: Global,
     errands: Vec<Errand<S>>,
     room: Room<S, A>,
@@ -71,14 +71,14 @@ pub fn refuse_errands<S: Drop, A: Told<S>>(
         waiting,
         comings,
     } = room;
-    let (waiting, comings) = parted(errands, waiting, comings);
+    let (waiting, comings) = waiting_and_comings(errands, waiting, comings);
     drop(comings);
     refuse_all(alloc, waiting, answered, refused, now)
 }
 
 /// What came of a message that was handed on.
-fn came_of(given: Result<TakenBytes, Refusal>) -> Result<TakenBytes, Refused>
-    ensures { result ≡ line.came_of given }
+fn taken_bytes_of(given: Result<TakenBytes, Refusal>) -> Result<TakenBytes, Refused>
+    ensures { result ≡ line.taken_bytes_of given }
 {
     match given {
         Ok(taken) => Ok(taken),
@@ -87,9 +87,9 @@ fn came_of(given: Result<TakenBytes, Refusal>) -> Result<TakenBytes, Refused>
 }
 
 /// Tells each of those who wait what came of the errand.
-fn give_all<S: Drop, A: Told<S>>(
+fn give_all<S: Drop, A: Recipient<S>>(
     alloc: Global,
-    waiting: Vec<Waiting<S>>,
+    waiting: Vec<WaitingClient<S>>,
     mut answered: Vec<A>,
     given: Vec<Result<TakenBytes, Refusal>>,
     now: u64,
@@ -97,10 +97,11 @@ fn give_all<S: Drop, A: Told<S>>(
     requires empty { answered.items ≡ [] }
     requires room { length waiting.items ≤ vec_capacity answered }
     requires each { length given.items ≡ length waiting.items }
-    ensures { AreTold (A.is_told now) (map line.came_of given.items) waiting.items result.items }
+    ensures { AreTold (A.is_told now) (map line.taken_bytes_of given.items) waiting.items
+        result.items }
 {
     for (one, taken) in waiting.into_iter().zip(given) {
-        answered.push_reserved(A::tell(alloc, one, came_of(taken), now));
+        answered.push_reserved(A::tell(alloc, one, taken_bytes_of(taken), now));
     }
     answered
 }
@@ -121,23 +122,23 @@ fn refused_to_clients(refused: Refused) -> Refused
 /// response at this moment, in milliseconds: who sent a message the answer to it, who gave an order
 /// what was replied. Gives the controller with the text that was saved. Where it can't be loaded or
 /// saved, or isn't one that is addressed, each is refused with a status of 503.
-pub fn answer_all<K: Keep, S: Drop, A: Told<S>>(
+pub fn answer_all<K: Keep, S: Drop, A: Recipient<S>>(
     alloc: Global,
     keep: &mut K,
-    last: Option<Saved>,
+    last: Option<SavedState>,
     to: Addressee<'_>,
     errands: Vec<Errand<S>>,
     room: Room<S, A>,
     at: u64,
     now: u64,
-) -> (Vec<A>, Option<Saved>)
+) -> (Vec<A>, Option<SavedState>)
     // Wants: room for each response.
     requires { line.HasRoom (length errands.items) room }
     // Proved: Each client who waits for a controller gets the response to what came of the
     // client's own request: what clients have come for came to it one after the other, it is one
     // that is addressed, and the state behind the last is held before any response is given; so a
     // 200 tells of a step that is saved. What the message was taken as is told, and who sent it.
-    // By `steps`, `place`; `Room::new`, `Answered::tell`.
+    // By `steps`, `place`; `Room::new`, `AnsweredClient::tell`.
     // Not proved: that memory doesn't run out for a response.
     // Proved: Where the controller can't be loaded or saved, or isn't one that is addressed, each
     // is refused with a status of 503, and what is held is what was, or the state behind the last.
@@ -151,7 +152,7 @@ pub fn answer_all<K: Keep, S: Drop, A: Told<S>>(
         waiting,
         comings,
     } = room;
-    let (waiting, comings) = parted(errands, waiting, comings);
+    let (waiting, comings) = waiting_and_comings(errands, waiting, comings);
     match take_all(alloc, keep, last, to, comings, at) {
         Ok((given, saved)) => (give_all(alloc, waiting, answered, given, now), saved),
         Err(refused) => {

@@ -5,12 +5,12 @@ ghost use Rattle.http_message.specs.Texts.{served_text};
 ghost use Rattle.rounds.specs.Line.{with_response};
 ghost use Rattle.rounds.specs.Orders as orders;
 
-use crate::told::{Told, told_of};
-use crate::waiting::Waiting;
+use crate::recipient::{Recipient, served_of};
+use crate::waiting::WaitingClient;
 use controller::Reply;
 use http_edge::Served;
 use http_message::{refusal_body, served_bytes};
-use peers::{Asked, Client};
+use peers::{Client, OwedClient};
 use std::alloc::{AllocError, Global};
 use stored_state::TakenBytes;
 use streams::Refused;
@@ -18,7 +18,7 @@ use ticket_items::{Refusal, SpawnId};
 
 /// One who gave an order and has the response.
 #[derive(Drop)]
-pub struct Ordered<S> {
+pub struct AnsweredOperator<S> {
     /// Under which number the client is kept.
     pub key: usize,
     /// The client; none where memory ran out for the response, and then it is closed.
@@ -96,7 +96,7 @@ fn reply_to(came: &Result<TakenBytes, Refused>) -> Option<Reply>
 /// One who gave an order, with the response to what came of it.
 fn answer<S: Drop>(
     alloc: Global,
-    asked: Asked<S>,
+    asked: OwedClient<S>,
     came: &Result<TakenBytes, Refused>,
     now: u64,
 ) -> Option<Client<S>>
@@ -112,29 +112,29 @@ fn answer<S: Drop>(
     }
 }
 
-impl<S: Drop> Told<S> for Ordered<S> {
+impl<S: Drop> Recipient<S> for AnsweredOperator<S> {
     ghost use Rattle.rounds.specs.Orders.{HasReply};
 
     ghost is_told = { HasReply };
 
     fn tell(
         alloc: Global,
-        waiting: Waiting<S>,
+        waiting: WaitingClient<S>,
         came: Result<TakenBytes, Refused>,
         now: u64,
-    ) -> Ordered<S>
+    ) -> AnsweredOperator<S>
         // Proved: Each who gave an order over the local socket has, under its own number, the
         // response to what came of its own order: a 200 that tells the reply and its spawn, or why
         // the controller refused the order and, of 12, the spawn that holds. What is told of it
         // and the reply are those of the same step.
-        // By `answer_all`: `steps`, `place`; `refuse_errands`, `Told::tell`.
+        // By `answer_all`: `steps`, `place`; `refuse_errands`, `Recipient::tell`.
         ensures { HasReply now came waiting result }
     {
-        let Waiting { key, asked } = waiting;
-        Ordered {
+        let WaitingClient { key, asked } = waiting;
+        AnsweredOperator {
             key,
             client: answer(alloc, asked, &came, now),
-            told: told_of(&came),
+            told: served_of(&came),
             reply: reply_to(&came),
         }
     }

@@ -1,7 +1,7 @@
 ghost use Rattle.std.specs.Prelude.{IfOk};
 ghost use Rattle.rounds.specs.Line.{HasRoom};
 
-use crate::waiting::Waiting;
+use crate::waiting::WaitingClient;
 use std::alloc::{AllocError, Global};
 use stored_state::Coming;
 
@@ -10,7 +10,7 @@ use stored_state::Coming;
 #[derive(Drop)]
 pub struct Room<S, A> {
     pub answered: Vec<A>,
-    pub waiting: Vec<Waiting<S>>,
+    pub waiting: Vec<WaitingClient<S>>,
     pub comings: Vec<Coming>,
 }
 

@@ -1,18 +1,18 @@
 //! Controllers that are kept in memory, by the paths of their files.
 
 ghost use Rattle.std.specs.Prelude.{◌≡◌, [], None, IfOk};
-ghost use Rattle.rounds.specs.Kept.{IsFront, Keeps, kept_for, others};
+ghost use Rattle.rounds.specs.Kept.{IsFront, Keeps, controller_of_path, other_paths};
 
 use lru::LruCache;
 use std::alloc::{AllocError, Global};
 use std::marker::Model;
-use stored_state::Saved;
+use stored_state::SavedState;
 
 /// Controllers that are kept in memory, by the paths of their files, up to a number of bytes of
 /// their texts in all. Those that weren't used for the longest time go first.
 #[derive(Drop)]
 pub struct SavedStates {
-    of_path: LruCache<String, Saved>,
+    of_path: LruCache<String, SavedState>,
     size: usize,
     most: usize,
 }
@@ -43,10 +43,10 @@ impl SavedStates {
     }
 
     /// Takes out that of a path.
-    pub fn take(&mut self, path: &str) -> Option<Saved>
-        ensures value { result ≡ kept_for path.now self.old }
-        ensures others { self.new ≡ others path.now self.old }
-        ensures gone { kept_for path.now self.new ≡ None }
+    pub fn take(&mut self, path: &str) -> Option<SavedState>
+        ensures value { result ≡ controller_of_path path.now self.old }
+        ensures others { self.new ≡ other_paths path.now self.old }
+        ensures gone { controller_of_path path.now self.new ≡ None }
     {
         let saved = self.of_path.pop(path)?;
         self.size = self.size.saturating_sub(saved.len());
@@ -54,7 +54,7 @@ impl SavedStates {
     }
 
     /// Keeps that of a path, as far as there is room.
-    pub fn keep(&mut self, path: String, saved: Saved) -> Result<(), AllocError>
+    pub fn keep(&mut self, path: String, saved: SavedState) -> Result<(), AllocError>
         // Proved: A controller is kept in memory for one path, once, before the others, of which
         // the last may go; or it isn't kept, and the others stay. What is taken out is what was
         // kept for the path.

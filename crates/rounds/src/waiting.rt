@@ -1,9 +1,9 @@
-use peers::Asked;
+use peers::OwedClient;
 
 /// A client who waits for the response to a request.
 #[derive(Drop)]
-pub struct Waiting<S> {
+pub struct WaitingClient<S> {
     /// Under which number the client is kept.
     pub key: usize,
-    pub asked: Asked<S>,
+    pub asked: OwedClient<S>,
 }

@@ -62,7 +62,10 @@ fn push_worker<R: Files>(
     if Lies::at(rt, path.as_str()) != Lies::File {
         return Ok(());
     }
-    let owner = Owner::WorkerOf(Id::known(alloc, worker)?, Id::known(alloc, master)?);
+    let owner = Owner::WorkerOf(
+        Id::from_valid(alloc, worker)?,
+        Id::from_valid(alloc, master)?,
+    );
     found.push(FolderFile { path, owner })?;
     Ok(())
 }
@@ -103,7 +106,7 @@ fn push_files<R: Files + Alloc + Clone + Drop>(
     let path = in_folder(alloc, folder, name)?;
     match Lies::at(rt, path.as_str()) {
         Lies::File => {
-            let owner = Owner::Named(Id::known(alloc, name)?);
+            let owner = Owner::Named(Id::from_valid(alloc, name)?);
             found.push(FolderFile { path, owner })?;
             Ok(())
         }

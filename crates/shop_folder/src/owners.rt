@@ -12,7 +12,7 @@ use stored_state::Addressee;
 pub const PEERS: &str = "peers.json";
 
 /// A path as that of a folder and a name in it.
-fn parted(path: &str) -> (&str, &str) {
+fn folder_and_name(path: &str) -> (&str, &str) {
     match path.rsplit_once('/') {
         Some((folder, name)) => (folder, name),
         None => (".", path),
@@ -42,11 +42,11 @@ pub fn owner_of<'a, R: Files>(
     alloc: Global,
     path: &'a str,
 ) -> Result<Addressee<'a>, AllocError> {
-    let (folder, name) = parted(path);
+    let (folder, name) = folder_and_name(path);
     if is_served(rt, alloc, folder)? {
         return Ok(Addressee::Named(servable(name)));
     }
-    let (above, worker) = parted(folder);
+    let (above, worker) = folder_and_name(folder);
     if is_served(rt, alloc, above)? {
         return Ok(Addressee::WorkerOf(servable(worker), servable(name)));
     }

@@ -4,7 +4,7 @@ use Rattle.json.specs.Token.{end_object}
 use Rattle.json.specs.Written.{Written, Writes}
 use Rattle.serde_json.specs.Data.{Members, member, no_members, string}
 use Rattle.ticket_items.specs.SpawnId.{spawn_text}
-use Rattle.ticket_tree.specs.Part.{Copied}
+use Rattle.ticket_tree.specs.Part.{PartCopy}
 use Rattle.json_text.specs.Printed.{IsPrinted}
 use Rattle.json_text.proofs.PrintedObjects.{IsOpen, closed, joined}
 use Rattle.list_text.specs.JsonLine.{number_data}
@@ -13,7 +13,7 @@ use Rattle.worker_core.specs.declared.stage.Stage.TheVariants.{Open, Done, Close
 use Rattle.shop_page.specs.WorkerJson.{end_of, stage_word, told_entry, with_end, with_part}
 
 -- as they were printed
-abbrev pub printed : ℕ → Stage → Option Copied → ℕ → Members
+abbrev pub printed : ℕ → Stage → Option PartCopy → ℕ → Members
 printed at stage part spawn =
     joined
     (joined
@@ -24,7 +24,7 @@ printed at stage part spawn =
     (member (codes "SpawnID") (string (spawn_text spawn)) no_members)
 
 -- the end of such an object
-pub ended : {E : Type 0} (at : ℕ) (stage : Stage) (part : Option Copied) (spawn : ℕ) {old mid : Written} (r : Result (Unit {0}) E) (new : Written) → IsOpen (printed at stage part spawn) old mid → Writes r mid new end_object → OnOk r (IsPrinted (told_entry at stage part spawn) old new)
+pub ended : {E : Type 0} (at : ℕ) (stage : Stage) (part : Option PartCopy) (spawn : ℕ) {old mid : Written} (r : Result (Unit {0}) E) (new : Written) → IsOpen (printed at stage part spawn) old mid → Writes r mid new end_object → OnOk r (IsPrinted (told_entry at stage part spawn) old new)
 ended at Open None spawn r new all writes = closed r new all writes refl
 ended at Open (Some p) spawn r new all writes = closed r new all writes refl
 ended at (Done how) None spawn r new all writes = closed r new all writes refl

@@ -3,7 +3,7 @@ use Rattle.std.specs.Prelude.{ℕ, ◌-◌, ◌==◌, ◌++◌, ◌∷◌, List,
 use Rattle.std.specs.Prelude.{take, if◌then◌else◌}
 use Rattle.std.specs.List.{filter, flat_map}
 use Rattle.job_picture.specs.Moments.{moment_text}
-use Rattle.job_picture.specs.Texts.{escaped}
+use Rattle.job_picture.specs.Texts.{escaped_text}
 use Rattle.shop_page.specs.Cells.{foot, head}
 use Rattle.shop_page.specs.Delays.{is_late, is_refused}
 use Rattle.shop_page.specs.Rows.{row}
@@ -22,8 +22,8 @@ more_words more =
 
 -- how many of so many works have no row where a table has at most so many; nothing where each has
 -- one
-abbrev pub left_out : ℕ → ℕ → List ℕ
-left_out most count = if nat_le count most then [] else more_words (count - most)
+abbrev pub rows_left_out : ℕ → ℕ → List ℕ
+rows_left_out most count = if nat_le count most then [] else more_words (count - most)
 
 -- what stands above a table of so many works
 unfoldable pub heading : List ℕ → ℕ → List ℕ
@@ -34,7 +34,7 @@ heading words count =
 unfoldable pub filled_table : List ℕ → ℕ → List OpenWork → List ℕ
 filled_table words now works =
     heading words (length works) ++ COLUMNS.now ++ each_row now (take MOST_ROWS works)
-    ++ codes "</table>" ++ 10 ∷ [] ++ left_out MOST_ROWS (length works)
+    ++ codes "</table>" ++ 10 ∷ [] ++ rows_left_out MOST_ROWS (length works)
 
 -- the same, and nothing of none
 abbrev pub table : List ℕ → ℕ → List OpenWork → List ℕ
@@ -60,7 +60,7 @@ shop_figures controllers unread now =
 -- the path of a shop, and these figures
 unfoldable pub banner : List ℕ → List ℕ → List ℕ → List ℕ
 banner path works shop =
-    codes "<header><h1>" ++ escaped path ++ codes "</h1><p>" ++ works ++ shop
+    codes "<header><h1>" ++ escaped_text path ++ codes "</h1><p>" ++ works ++ shop
     ++ codes "</p></header>" ++ 10 ∷ []
 
 -- all figures of a shop

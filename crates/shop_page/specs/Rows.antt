@@ -3,7 +3,7 @@ use Rattle.std.specs.Prelude.{ℕ, ◌-◌, ◌==◌, ◌++◌, ◌∷◌, Bool,
 use Rattle.std.specs.Prelude.{Option, Some, None, if◌then◌else◌}
 use Rattle.std.specs.List.{before_first}
 use Rattle.ticket_items.specs.SpawnId.{spawn_text}
-use Rattle.job_list.specs.Work.{known, phase_word}
+use Rattle.job_list.specs.Work.{known_text, phase_word}
 use Rattle.job_list.specs.declared.work.Work.{Work}
 use Rattle.job_picture.specs.Moments.{moment_text, span_text}
 use Rattle.refusal_rows.specs.Rows.{text_of}
@@ -16,13 +16,13 @@ abbrev pub first_line : List ℕ → List ℕ
 first_line text = before_first (λ b. b == 10) text
 
 -- a refusal: the first line of its text, where the table has one, or its number
-abbrev pub told_of : Option (List ℕ) → ℕ → List ℕ
-told_of None number = decimal number
-told_of (Some text) number = first_line text
+abbrev pub refusal_cell : Option (List ℕ) → ℕ → List ℕ
+refusal_cell None number = decimal number
+refusal_cell (Some text) number = first_line text
 
 -- how a message fares that was refused, or wasn't and waits too long or doesn't
 abbrev pub words_of : Option ℕ → Bool → List ℕ
-words_of (Some number) late = codes "refused: " ++ told_of (text_of (decimal number)) number
+words_of (Some number) late = codes "refused: " ++ refusal_cell (text_of (decimal number)) number
 words_of None late = if late then codes "no answer yet" else []
 
 -- how the message of work fares
@@ -37,9 +37,9 @@ class_of now w =
 -- the cells that tell what the work of a controller is
 unfoldable pub work_cells : List ℕ → Work → List ℕ
 work_cells controller w =
-    link_cell controller ++ cell (known w.job) ++ cell (spawn_text w.spawn_id)
-    ++ cell (phase_word w.phase) ++ cell w.other ++ cell (known w.node)
-    ++ cell (known w.descriptive_name) ++ cell (known w.status)
+    link_cell controller ++ cell (known_text w.job) ++ cell (spawn_text w.spawn_id)
+    ++ cell (phase_word w.phase) ++ cell w.other ++ cell (known_text w.node)
+    ++ cell (known_text w.descriptive_name) ++ cell (known_text w.status)
 
 -- those that tell since when it is so, for how long, and how its message fares
 unfoldable pub time_cells : ℕ → OpenWork → List ℕ

@@ -7,10 +7,10 @@ ghost use Rattle.json_text.specs.Printed.{AreMembersPrinted, IsPrinted};
 ghost use Rattle.shop_page.specs.ListJson as list;
 
 use crate::open_work::OpenWork;
-use crate::picked::{late_of, refused_of};
+use crate::picked::{late_of, refused_works};
 use crate::shop::Shop;
 use json::Writer;
-use json_text::{finished, print_member, print_text};
+use json_text::{print_member, print_text, written_text};
 use list_text::print_work;
 use std::alloc::{AllocError, Global};
 
@@ -87,7 +87,7 @@ fn print_list(
 ) -> Result<(), AllocError>
     ensures { OnOk result (IsPrinted (list.list_data shop.entry.now works.now) out.old out.new) }
 {
-    let refused = refused_of(alloc, works)?;
+    let refused = refused_works(alloc, works)?;
     let late = late_of(alloc, works, shop.now)?;
     let controllers = shop.controllers as u64;
     out.begin_object()?;
@@ -115,7 +115,7 @@ pub fn list_json(
 {
     let mut out = Writer::new(Vec::new(alloc));
     print_list(alloc, &mut out, shop, works)?;
-    let mut text = finished(out);
+    let mut text = written_text(out);
     text.push(b'\n')?;
     Ok(text)
 }

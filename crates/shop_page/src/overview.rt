@@ -5,10 +5,10 @@ ghost use Rattle.shop_page.specs.Page as pages;
 
 use crate::cells::head;
 use crate::open_work::OpenWork;
-use crate::picked::{late_of, refused_of};
+use crate::picked::{late_of, refused_works};
 use crate::shop::Shop;
 use crate::tables::table;
-use job_picture::{escaped, moment_text};
+use job_picture::{escaped_text, moment_text};
 use std::alloc::{AllocError, Global};
 
 /// A figure that is large.
@@ -57,7 +57,7 @@ fn banner(alloc: Global, path: &str, works: &str, shop: &str) -> Result<String, 
     ensures { IfOk result (λ made. string_bytes made
         ≡ pages.banner path.now works.now shop.now) }
 {
-    let path = escaped(alloc, path)?;
+    let path = escaped_text(alloc, path)?;
     format!(in alloc; "<header><h1>{path}</h1><p>{works}{shop}</p></header>\n")
 }
 
@@ -113,6 +113,6 @@ pub fn shop_page(
     ensures { IfOk result (λ page. string_bytes page ≡ pages.page shop.entry.now works.now) }
 {
     let late = late_of(alloc, works, shop.now)?;
-    let refused = refused_of(alloc, works)?;
+    let refused = refused_works(alloc, works)?;
     page_of(alloc, shop, works, late.as_slice(), refused.as_slice())
 }

@@ -8,7 +8,7 @@ use crate::open_work::OpenWork;
 use std::alloc::{AllocError, Global};
 
 /// Those whose messages were refused.
-pub(crate) fn refused_of<'a>(
+pub(crate) fn refused_works<'a>(
     alloc: Global,
     works: &[OpenWork<'a>],
 ) -> Result<Vec<OpenWork<'a>>, AllocError>

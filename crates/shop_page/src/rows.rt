@@ -1,7 +1,7 @@
 //! The rows of open work on a page.
 
 ghost use Rattle.std.specs.Prelude.{◌≡◌, decimal, string_bytes, IfOk};
-ghost use Rattle.job_list.specs.Work.{known};
+ghost use Rattle.job_list.specs.Work.{known_text};
 ghost use Rattle.refusal_rows.specs.Rows as table;
 ghost use Rattle.shop_page.specs.Rows as rows;
 
@@ -15,7 +15,7 @@ use ticket_items::Text;
 
 /// A text that is known, or nothing.
 fn known_text(text: &Option<Text>) -> &str
-    ensures { result.now ≡ known text.now }
+    ensures { result.now ≡ known_text text.now }
 {
     match text {
         None => "",
@@ -34,9 +34,9 @@ fn first_line(text: &str) -> &str
 }
 
 /// A refusal: the first line of its text, where the table has one, or its number.
-fn told_of(alloc: Global, number: u16) -> Result<String, AllocError>
+fn refusal_cell(alloc: Global, number: u16) -> Result<String, AllocError>
     ensures { IfOk result (λ told. string_bytes told
-        ≡ rows.told_of (table.text_of (decimal number)) number) }
+        ≡ rows.refusal_cell (table.text_of (decimal number)) number) }
 {
     let digits = format!(in alloc; "{number}")?;
     match text_of(digits.as_str()) {
@@ -51,7 +51,7 @@ fn words_of(alloc: Global, refusal: Option<u16>, is_late: bool) -> Result<String
 {
     match refusal {
         Some(number) => {
-            let told = told_of(alloc, number)?;
+            let told = refusal_cell(alloc, number)?;
             format!(in alloc; "refused: {told}")
         }
         None if is_late => String::from_str(alloc, "no answer yet"),

@@ -30,8 +30,8 @@ fn more_words(alloc: Global, more: usize) -> Result<String, AllocError>
 }
 
 /// How many of so many works have no row where a table has `most`; nothing where each has one.
-fn left_out(alloc: Global, most: usize, count: usize) -> Result<String, AllocError>
-    ensures { IfOk result (λ made. string_bytes made ≡ pages.left_out most count) }
+fn rows_left_out(alloc: Global, most: usize, count: usize) -> Result<String, AllocError>
+    ensures { IfOk result (λ made. string_bytes made ≡ pages.rows_left_out most count) }
 {
     if count <= most {
         return Ok(String::new(alloc));
@@ -51,7 +51,7 @@ fn each_row(alloc: Global, works: &[OpenWork<'_>], now: u64) -> Result<String, A
 }
 
 /// The first works, as many as a table has rows for at most.
-fn shown<'s, 'a>(works: &'s [OpenWork<'a>], most: usize) -> &'s [OpenWork<'a>]
+fn first_works<'s, 'a>(works: &'s [OpenWork<'a>], most: usize) -> &'s [OpenWork<'a>]
     ensures { result.now ≡ take most works.now }
 {
     if works.len() <= most {
@@ -72,8 +72,8 @@ fn filled_table(
         ≡ pages.filled_table words.now now works.now) }
 {
     let heading = heading(alloc, words, works.len())?;
-    let rows = each_row(alloc, shown(works, MOST_ROWS), now)?;
-    let left_out = left_out(alloc, MOST_ROWS, works.len())?;
+    let rows = each_row(alloc, first_works(works, MOST_ROWS), now)?;
+    let left_out = rows_left_out(alloc, MOST_ROWS, works.len())?;
     format!(in alloc; "{heading}{COLUMNS}{rows}</table>\n{left_out}")
 }
 

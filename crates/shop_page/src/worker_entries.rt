@@ -7,7 +7,7 @@ ghost use Rattle.json_text.specs.Printed.{AreMembersPrinted, IsPrinted};
 ghost use Rattle.shop_page.specs.WorkerJson as shown;
 
 use json::Writer;
-use json_text::{finished, print_member, print_part, print_text};
+use json_text::{print_member, print_part, print_text, written_text};
 use std::alloc::{AllocError, Global};
 use ticket_tree::Part;
 use worker_core::{End, Entry, Stage, Worker};
@@ -92,7 +92,7 @@ pub fn worker_json(alloc: Global, worker: &Worker) -> Result<Vec<u8>, AllocError
 {
     let mut out = Writer::new(Vec::new(alloc));
     print_entries(alloc, &mut out, worker.entries())?;
-    let mut text = finished(out);
+    let mut text = written_text(out);
     text.push(b'\n')?;
     Ok(text)
 }

@@ -7,12 +7,12 @@ use Rattle.std.proofs.lemmas.Slice.Eq.{bytes_eq-Decides}
 use Rattle.std.specs.List.{filter, list_all}
 use Rattle.std.specs.Str.{bytes_eq}
 use Rattle.ticket_items.proofs.Apart.{bytes_eq-same}
-use Rattle.ticket_rows.specs.Homes.{homes, homed}
+use Rattle.ticket_rows.specs.Homes.{homes, pool_with_home}
 use Rattle.ticket_items.specs.Ids.{mem, are_distinct}
 use Rattle.ticket_items.specs.Resource.{resource_ids}
 use Rattle.ticket_tree.specs.Part.{is_linked}
 use Rattle.ticket_rows.specs.Place.{Place, places, places_from, resource_place, place_at, is_node}
-use Rattle.ticket_rows.specs.Place.{below, path_of, fixed, fixed_at}
+use Rattle.ticket_rows.specs.Place.{below, named_thing, named_thing_at, path_of}
 use Rattle.ticket_rows.specs.Ticket.{IsValid, ids}
 use Rattle.ticket_items.specs.declared.node_row.NodeRow.{NodeRow}
 use Rattle.ticket_items.specs.declared.resource.Resource.{Resource}
@@ -30,7 +30,7 @@ use Rattle.spawn.specs.Parts.{resources}
 
 pub resources_cons : (r : NodeRow) (rows : List NodeRow)
     → resources (r ∷ rows) ≡ r.resources ++ resources rows
-resources_cons r rows = map-append {A = Resource × List ℕ} (λ e. e.0) (homed r) (homes rows) ∙ ap (λ xs. xs ++ resources rows) (own_pool r.id r.resources)
+resources_cons r rows = map-append {A = Resource × List ℕ} (λ e. e.0) (pool_with_home r) (homes rows) ∙ ap (λ xs. xs ++ resources rows) (own_pool r.id r.resources)
 
 pub resources-append : (xs ys : List NodeRow) → resources (xs ++ ys) ≡ resources xs ++ resources ys
 resources-append xs ys = ap (map (λ e. e.0)) (homes-append xs ys) ∙ map-append {A = Resource × List ℕ} (λ e. e.0) (homes xs) (homes ys)
@@ -117,9 +117,9 @@ pub kept_ids : (t : List ℕ → Bool) (rows : List NodeRow)
 kept_ids t rows = kept_from (λ p. p.id) (λ x. x.id) (λ path x. refl) t [] rows
 
 pub kept_fixed : (t : List ℕ → Bool) (rows : List NodeRow)
-    → map fixed_at (filter (keep t) (places rows))
-    ≡ map fixed (filter (λ x. t x.id) (resources rows))
-kept_fixed t rows = kept_from fixed_at fixed (λ path x. refl) t [] rows
+    → map named_thing_at (filter (keep t) (places rows))
+    ≡ map named_thing (filter (λ x. t x.id) (resources rows))
+kept_fixed t rows = kept_from named_thing_at named_thing (λ path x. refl) t [] rows
 
 -- ---- each place is found by its id
 

@@ -24,7 +24,7 @@ use Rattle.spawn.proofs.RowsBelow.{rows_below-around}
 use Rattle.spawn.proofs.Split.{Around, around, none_below}
 use Rattle.spawn.proofs.Standing.{ids_apart, named}
 use Rattle.spawn.specs.Claim.{is_claimed}
-use Rattle.spawn.specs.Holdings.{Holdings, IsFree, IsTable, claimed_ids, claims, held_by}
+use Rattle.spawn.specs.Holdings.{Holdings, IsFree, IsTable, claimed_ids, claims, holding_spawn}
 use Rattle.ticket_tree.proofs.AtNode.{none_below_unknown}
 use Rattle.ticket_tree.specs.At.{rows_below}
 use Rattle.spawn.specs.Records.{is_out}
@@ -211,21 +211,21 @@ some_holds f (r ∷ recs) = by (f r) (some_holds f recs)
 
 both_at : (rows : List NodeRow) (recs : List SpawnRec) (r : SpawnRec) (h : Holdings) (p : Place)
     → is_out r ≡ true → IsTable rows recs h → place_at (places rows) p.id ≡ Some p
-    → (holds p r && list_any (holds p) recs) ≡ (claims rows r p.id && is_some (held_by h p.id))
+    → (holds p r && list_any (holds p) recs) ≡ (claims rows r p.id && is_some (holding_spawn h p.id))
 both_at rows recs r h p out table own =
     ap (λ b. (b && is_claimed r.node r.rw p) && list_any (holds p) recs) out
     ∙ ap (λ b. is_claimed r.node r.rw p && b) (sym (some_holds (holds p) recs))
-    ∙ sym (ap (λ o. option_map_or (is_claimed r.node r.rw) o false && is_some (held_by h p.id)) own
+    ∙ sym (ap (λ o. option_map_or (is_claimed r.node r.rw) o false && is_some (holding_spawn h p.id)) own
     ∙ ap (λ o. is_claimed r.node r.rw p && is_some o) (table.same p.id ∙ ap (λ o. option_and_then as_spawn (option_map (holder_at recs) o)) own))
 
 -- one of the ids of a claim is held just where a spawn holds a place of it
 pub held_is_met : (rows : List NodeRow) (recs : List SpawnRec) (r : SpawnRec) (h : Holdings)
     → IsValid rows → is_out r ≡ true → IsTable rows recs h
-    → list_any (λ x. is_some (held_by h x)) (claimed_ids rows r) ≡ hold_both (places rows) recs r
+    → list_any (λ x. is_some (holding_spawn h x)) (claimed_ids rows r) ≡ hold_both (places rows) recs r
 held_is_met rows recs r h valid out table =
     let tree = places rows in
-    let g : List ℕ → Bool = λ x. claims rows r x && is_some (held_by h x) in
-    any_among (ids rows) (claimed_ids rows r) (claims rows r) (λ x. is_some (held_by h x)) (λ x. claims_listed rows r x valid) (claimed_within rows r valid)
+    let g : List ℕ → Bool = λ x. claims rows r x && is_some (holding_spawn h x) in
+    any_among (ids rows) (claimed_ids rows r) (claims rows r) (λ x. is_some (holding_spawn h x)) (λ x. claims_listed rows r x valid) (claimed_within rows r valid)
     ∙ ap (list_any g) (sym (ids_of_places [] rows))
     ∙ sym (any_own tree (λ p. holds p r && list_any (holds p) recs) g tree (all_own tree tree (λ y p found. found) (ids_apart rows valid)) (λ p own. both_at rows recs r h p out table own))
 
@@ -236,9 +236,9 @@ none_held_at None g xs x e there none = refl
 none_held_at (Some s) g xs x e there none = absurd (true≢false (sym (passes_there (λ y. is_some (g y)) xs x there (ap is_some e)) ∙ none))
 
 pub unmet_is_free : (rows : List NodeRow) (r : SpawnRec) (h : Holdings) → IsValid rows
-    → list_any (λ x. is_some (held_by h x)) (claimed_ids rows r) ≡ false → IsFree (claims rows r) h
+    → list_any (λ x. is_some (holding_spawn h x)) (claimed_ids rows r) ≡ false → IsFree (claims rows r) h
 unmet_is_free rows r h valid none =
-    record { none = λ x claimed. none_held_at (held_by h x) (held_by h) (claimed_ids rows r) x refl (claims_listed rows r x valid ∙ claimed) none }
+    record { none = λ x claimed. none_held_at (holding_spawn h x) (holding_spawn h) (claimed_ids rows r) x refl (claims_listed rows r x valid ∙ claimed) none }
 
 -- ---- one spawn more
 

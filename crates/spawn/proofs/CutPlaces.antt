@@ -9,7 +9,7 @@ use Rattle.std.specs.List.{filter, list_all, list_any}
 use Rattle.ticket_rows.proofs.Below.{Path, below_x}
 use Rattle.ticket_rows.specs.Place.{Place, node_place, resource_place, places_of, places_from}
 use Rattle.ticket_rows.specs.Place.{places, below, path_of}
-use Rattle.ticket_tree.specs.PartView.{cut}
+use Rattle.ticket_tree.specs.PartView.{cut_place}
 use Rattle.ticket_items.specs.declared.node_row.NodeRow.{NodeRow}
 use Rattle.ticket_items.specs.declared.resource.Resource.{Resource}
 use Rattle.spawn.proofs.Ancestry.{above_is}
@@ -17,7 +17,7 @@ use Rattle.spawn.proofs.Outside.{around_places}
 use Rattle.spawn.proofs.RowsBelow.{filter-append, rows_below-around}
 use Rattle.spawn.proofs.Split.{AreDeep, Around, around, path_after}
 use Rattle.spawn.specs.Laws.{CutPlaces}
-use Rattle.spawn.specs.Parts.{above, lifted}
+use Rattle.spawn.specs.Parts.{above, lifted_row}
 
 -- ---- paths through n, cut at n
 
@@ -34,26 +34,26 @@ abbrev IsCut : ℕ → Path → Path → Type 0
 IsCut levels path short = take (length path - levels) path ≡ short
 
 cut_pool : (levels : ℕ) (path short : Path) (pool : List Resource) → IsCut levels path short
-    → map (resource_place short) pool ≡ map (cut levels) (map (resource_place path) pool)
+    → map (resource_place short) pool ≡ map (cut_place levels) (map (resource_place path) pool)
 cut_pool levels path short [] e = refl
-cut_pool levels path short (x ∷ pool) e = ap (λ p. resource_place p x ∷ map (resource_place short) pool) (sym e) ∙ ap (λ ps. cut levels (resource_place path x) ∷ ps) (cut_pool levels path short pool e)
+cut_pool levels path short (x ∷ pool) e = ap (λ p. resource_place p x ∷ map (resource_place short) pool) (sym e) ∙ ap (λ ps. cut_place levels (resource_place path x) ∷ ps) (cut_pool levels path short pool e)
 
 cut_row : (levels : ℕ) (path short : Path) (r : NodeRow) (ps qs : List Place)
-    → IsCut levels path short → ps ≡ map (cut levels) qs
-    → places_of (lifted levels r) short ++ ps ≡ map (cut levels) (places_of r path ++ qs)
+    → IsCut levels path short → ps ≡ map (cut_place levels) qs
+    → places_of (lifted_row levels r) short ++ ps ≡ map (cut_place levels) (places_of r path ++ qs)
 cut_row levels path short r ps qs e go =
-    let first = cut levels (node_place r path) in
+    let first = cut_place levels (node_place r path) in
     let pool = map (resource_place path) r.resources in
     ap (λ p. node_place r p ∷ (map (resource_place short) r.resources ++ ps)) (sym e)
     ∙ ap (λ xs. first ∷ (xs ++ ps)) (cut_pool levels path short r.resources e)
-    ∙ ap (λ xs. first ∷ (map (cut levels) pool ++ xs)) go
-    ∙ ap (λ xs. first ∷ xs) (sym (map-append (cut levels) pool qs))
+    ∙ ap (λ xs. first ∷ (map (cut_place levels) pool ++ xs)) go
+    ∙ ap (λ xs. first ∷ xs) (sym (map-append (cut_place levels) pool qs))
 
 -- ---- the rows behind n
 
 cut_from : (n : List ℕ) (up q : Path) (rows : List NodeRow) → AreDeep (suc (length up)) rows
-    → places_from (q ++ n ∷ []) (map (lifted (length up)) rows)
-    ≡ map (cut (length up)) (places_from (q ++ n ∷ up) rows)
+    → places_from (q ++ n ∷ []) (map (lifted_row (length up)) rows)
+    ≡ map (cut_place (length up)) (places_from (q ++ n ∷ up) rows)
 cut_from n up q [] deep = refl
 cut_from n up q (r ∷ rows) deep =
     let levels : ℕ = length up in
@@ -64,25 +64,25 @@ cut_from n up q (r ∷ rows) deep =
     let long : length (q ++ n ∷ up) ≡ length q + suc levels = length-append q (n ∷ up) in
     let short : length (q ++ n ∷ []) ≡ length q + 1 = length-append q (n ∷ []) in
     let less : length (q ++ n ∷ []) - ((r.depth - levels) - 1) ≡ length (q ++ n ∷ up) - (r.depth - 1) = omega (arith, low, long, short) in
-    let lifted_path : path_of (q ++ n ∷ []) (lifted levels r) ≡ kept ++ n ∷ [] = below_x n q [] (lifted levels r) (omega (arith, low)) ∙ ap (λ m. (r.id ∷ drop m q) ++ n ∷ []) less in
-    ap (λ p. places_of (lifted levels r) p ++ places_from p (map (lifted levels) rows)) lifted_path
-    ∙ cut_row levels (kept ++ n ∷ up) (kept ++ n ∷ []) r (places_from (kept ++ n ∷ []) (map (lifted levels) rows)) (places_from (kept ++ n ∷ up) rows) (cut_path kept up n) (cut_from n up kept rows parts.1)
-    ∙ ap (λ p. map (cut levels) (places_of r p ++ places_from p rows)) (sym path)
+    let lifted_path : path_of (q ++ n ∷ []) (lifted_row levels r) ≡ kept ++ n ∷ [] = below_x n q [] (lifted_row levels r) (omega (arith, low)) ∙ ap (λ m. (r.id ∷ drop m q) ++ n ∷ []) less in
+    ap (λ p. places_of (lifted_row levels r) p ++ places_from p (map (lifted_row levels) rows)) lifted_path
+    ∙ cut_row levels (kept ++ n ∷ up) (kept ++ n ∷ []) r (places_from (kept ++ n ∷ []) (map (lifted_row levels) rows)) (places_from (kept ++ n ∷ up) rows) (cut_path kept up n) (cut_from n up kept rows parts.1)
+    ∙ ap (λ p. map (cut_place levels) (places_of r p ++ places_from p rows)) (sym path)
 
 -- ---- n with the rows behind it
 
 cut_below : (rows : List NodeRow) (n : List ℕ) → (at : Around rows n)
-    → places (map (lifted (length at.up)) (at.root ∷ at.inner))
-    ≡ map (cut (length at.up)) (places_from (path_after [] at.front) (at.root ∷ at.inner))
+    → places (map (lifted_row (length at.up)) (at.root ∷ at.inner))
+    ≡ map (cut_place (length at.up)) (places_from (path_after [] at.front) (at.root ∷ at.inner))
 cut_below rows n at =
     let levels : ℕ = length at.up in
     let root = at.root in
-    let inner = map (lifted levels) at.inner in
+    let inner = map (lifted_row levels) at.inner in
     let one : root.depth - levels ≡ 1 = omega (arith, at.level) in
-    let root_path : path_of [] (lifted levels root) ≡ n ∷ [] = ap (λ d. root.id ∷ drop (0 - (d - 1)) []) one ∙ ap (λ i. i ∷ []) at.named in
-    ap (λ p. places_of (lifted levels root) p ++ places_from p inner) root_path
+    let root_path : path_of [] (lifted_row levels root) ≡ n ∷ [] = ap (λ d. root.id ∷ drop (0 - (d - 1)) []) one ∙ ap (λ i. i ∷ []) at.named in
+    ap (λ p. places_of (lifted_row levels root) p ++ places_from p inner) root_path
     ∙ cut_row levels (n ∷ at.up) (n ∷ []) root (places_from (n ∷ []) inner) (places_from (n ∷ at.up) at.inner) (cut_path [] at.up n) (cut_from n at.up [] at.inner at.deep)
-    ∙ ap (λ p. map (cut levels) (places_of root p ++ places_from p at.inner)) (sym at.path)
+    ∙ ap (λ p. map (cut_place levels) (places_of root p ++ places_from p at.inner)) (sym at.path)
 
 -- ---- the places below n
 
@@ -114,8 +114,8 @@ pub cut_places : CutPlaces
 cut_places rows n valid known =
     let at = around rows n valid known in
     let high : length (above rows n) ≡ length at.up = ap length (above_is rows n valid at) ∙ length-reverse at.up in
-    ap (λ rs. places (map (lifted (length (above rows n))) rs)) (rows_below-around rows n valid at)
-    ∙ ap (λ k. places (map (lifted k) (at.root ∷ at.inner))) high
+    ap (λ rs. places (map (lifted_row (length (above rows n))) rs)) (rows_below-around rows n valid at)
+    ∙ ap (λ k. places (map (lifted_row k) (at.root ∷ at.inner))) high
     ∙ cut_below rows n at
-    ∙ ap (λ k. map (cut k) (places_from (path_after [] at.front) (at.root ∷ at.inner))) (sym high)
-    ∙ ap (map (cut (length (above rows n)))) (sym (places_below rows n at))
+    ∙ ap (λ k. map (cut_place k) (places_from (path_after [] at.front) (at.root ∷ at.inner))) (sym high)
+    ∙ ap (map (cut_place (length (above rows n)))) (sym (places_below rows n at))

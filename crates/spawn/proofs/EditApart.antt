@@ -6,7 +6,7 @@ use Rattle.std.specs.Str.{bytes_eq}
 use Rattle.ticket_items.proofs.Apart.{bytes_eq-same}
 use Rattle.ticket_items.specs.Ids.{mem, are_distinct}
 use Rattle.ticket_rows.specs.Edit.{edited_rows}
-use Rattle.ticket_rows.specs.Place.{Place, fixed_at, is_node, places, node_places, place_at, below, parent}
+use Rattle.ticket_rows.specs.Place.{Place, below, is_node, named_thing_at, node_places, parent, place_at, places}
 use Rattle.ticket_rows.specs.Ticket.{IsValid}
 use Rattle.ticket_items.specs.declared.node_row.NodeRow.{NodeRow}
 use Rattle.ticket_tree.proofs.ByKind.{found_among, found_by_kind, ids_apart, place_of_node}
@@ -62,7 +62,7 @@ good_in_both rows later r valid valid_later claimed outside good =
     record {
       has_parent = ap (λ o. is_some (option_and_then parent o)) (node ∙ sym at.1) ∙ good.has_parent;
       rw = good.rw ∙ ap (λ tree. ids_of (filter (λ p. mem p.id r.rw) tree)) (sym outside);
-      ro = good.ro ∙ ap (λ tree. map fixed_at (filter (λ p. not (mem p.id r.rw)) tree)) (sym outside);
+      ro = good.ro ∙ ap (λ tree. map named_thing_at (filter (λ p. not (mem p.id r.rw)) tree)) (sym outside);
     }
 
 -- ---- the whole

@@ -37,7 +37,7 @@ use Rattle.spawn.specs.Claim.{claim, is_claimed, is_linked_below, is_linked_outs
 use Rattle.spawn.specs.Claim.{links}
 use Rattle.spawn.specs.Laws.{EditKeepsClaims}
 use Rattle.spawn.specs.Records.{IsGood, is_out}
-use Rattle.spawn.specs.Table.{holder_at, holder_of, holds, holding}
+use Rattle.spawn.specs.Table.{holder_at, holder_of, holding_record, holds}
 use Rattle.spawn.specs.declared.tables.holder.Holder.TheVariants.{Master, Spawn}
 use Rattle.spawn.specs.declared.records.spawn_rec.SpawnRec.{SpawnRec}
 
@@ -110,7 +110,7 @@ free_of : (rows : List NodeRow) (recs : List SpawnRec) (n : List ℕ) (k : ℕ) 
     → slice_get recs k ≡ Some r → is_out r ≡ true → Free rows n r
 free_of rows recs n k r valid known held at out =
     let stands = node_stands rows n valid known in
-    let none = master_at (holding recs stands.place) (sym (ap (option_map (holder_at recs)) stands.there) ∙ held) in
+    let none = master_at (holding_record recs stands.place) (sym (ap (option_map (holder_at recs)) stands.there) ∙ held) in
     let fails = or_parts (below r.node stands.place) (mem stands.place.id r.rw) (and_out (is_out r) (is_claimed r.node r.rw stands.place) out (none_passes (holds stands.place) recs k r none at)) in
     record {
       place = stands.place;

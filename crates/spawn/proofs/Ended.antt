@@ -13,7 +13,7 @@ use Rattle.spawn.proofs.NewRecord.{good_stays}
 use Rattle.spawn.specs.Claim.{is_claimed}
 use Rattle.spawn.specs.Laws.{EndKeepsApart, EndKeepsOthers, EndedClaimIsMasters, StandApart}
 use Rattle.spawn.specs.Records.{is_out}
-use Rattle.spawn.specs.Table.{holder_at, holding, holds}
+use Rattle.spawn.specs.Table.{holder_at, holding_record, holds}
 use Rattle.spawn.specs.declared.tables.holder.Holder.TheVariants.{Master, Spawn}
 use Rattle.spawn.specs.declared.records.spawn_rec.SpawnRec.{SpawnRec}
 
@@ -58,7 +58,7 @@ pub none_holds : (o : Option SpawnRec) (rows : List NodeRow) (recs : List SpawnR
     (r ended : SpawnRec) (x : List ℕ) (p : Place)
     → StandApart rows recs → slice_get recs k ≡ Some r → is_out r ≡ true → is_out ended ≡ false
     → place_at (places rows) x ≡ Some p → is_claimed r.node r.rw p ≡ true
-    → holding (slice_set recs k ended) p ≡ o → o ≡ None
+    → holding_record (slice_set recs k ended) p ≡ o → o ≡ None
 none_holds None rows recs k r ended x p apart at out off there claims e = refl
 none_holds (Some s) rows recs k r ended x p apart at out off there claims e =
     let news = slice_set recs k ended in
@@ -95,7 +95,7 @@ ended_claim_is_masters rows later recs k r ended same apart there out off x p st
     let news = slice_set recs k ended in
     ap (λ tree. option_map (holder_at news) (place_at tree x)) same
     ∙ ap (option_map (holder_at news)) stands
-    ∙ ap (λ o. Some (option_map_or (λ s. Spawn s.id) o Master)) (none_holds (holding news p) rows recs k r ended x p apart there out off stands claims refl)
+    ∙ ap (λ o. Some (option_map_or (λ s. Spawn s.id) o Master)) (none_holds (holding_record news p) rows recs k r ended x p apart there out off stands claims refl)
 
 others_at : (o : Option Place) (recs : List SpawnRec) (k : ℕ) (r ended : SpawnRec)
     → slice_get recs k ≡ Some r → is_out r ≡ true → is_out ended ≡ false

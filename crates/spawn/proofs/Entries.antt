@@ -21,7 +21,7 @@ use Rattle.ticket_items.specs.declared.node_row.NodeRow.{NodeRow}
 use Rattle.ticket_items.specs.declared.resource.Resource.{Resource}
 use Rattle.spawn.proofs.Among.{out_of_both}
 use Rattle.spawn.proofs.Chosen.{resources_cons}
-use Rattle.spawn.specs.Parts.{lifted, resources}
+use Rattle.spawn.specs.Parts.{lifted_row, resources}
 use Rattle.spawn.proofs.PartKept.{mapped_some}
 
 -- ---- entries by their keys
@@ -118,10 +118,10 @@ pub some_row : {V : Type 0} (f : NodeRow → V) (g : Resource → V) (rows : Lis
 some_row f g rows y = some_look (entries f g rows) y ∙ ap (mem y) (row_keys f g rows)
 
 pub entries_lifted : {V : Type 0} (f : NodeRow → V) (g : Resource → V) → IsOwn f
-    → (levels : ℕ) (rows : List NodeRow) → entries f g (map (lifted levels) rows) ≡ entries f g rows
+    → (levels : ℕ) (rows : List NodeRow) → entries f g (map (lifted_row levels) rows) ≡ entries f g rows
 entries_lifted f g own levels [] = refl
 entries_lifted f g own levels (r ∷ rows) =
-    ap (λ v. ((r.id, v) ∷ pool_entries g r.resources) ++ entries f g (map (lifted levels) rows)) (own r (lifted levels r).depth r.resources) ∙ ap (λ ls. entries_of f g r ++ ls) (entries_lifted f g own levels rows)
+    ap (λ v. ((r.id, v) ∷ pool_entries g r.resources) ++ entries f g (map (lifted_row levels) rows)) (own r (lifted_row levels r).depth r.resources) ∙ ap (λ ls. entries_of f g r ++ ls) (entries_lifted f g own levels rows)
 
 -- an id that is no node's is found among the resources
 pub look_resource : {V : Type 0} (f : NodeRow → V) (g : Resource → V) (rows : List NodeRow)

@@ -30,7 +30,7 @@ use Rattle.spawn.proofs.Standing.{ids_apart}
 use Rattle.spawn.specs.Claim.{ids_of, is_claimed, linked_outside}
 use Rattle.spawn.specs.FirstHeld.{first_answer}
 use Rattle.spawn.specs.Spawning.{holding_claimed}
-use Rattle.spawn.specs.Table.{as_spawn, holder_at, holding, spawn_with}
+use Rattle.spawn.specs.Table.{as_spawn, holder_at, holding_record, spawn_with}
 use Rattle.spawn.specs.declared.records.spawn_rec.SpawnRec.{SpawnRec}
 use Rattle.spawn.specs.declared.tables.holder.Holder.TheVariants.{Master, Spawn}
 
@@ -66,8 +66,8 @@ as_spawn_of (Some r) = refl
 
 own_spawn : (rows : List NodeRow) (recs : List SpawnRec) (p : Place)
     → place_at (places rows) p.id ≡ Some p
-    → option_map (λ r. r.id) (holding recs p) ≡ spawn_with rows recs p.id
-own_spawn rows recs p own = sym (ap (λ o. option_and_then as_spawn (option_map (holder_at recs) o)) own ∙ as_spawn_of (holding recs p))
+    → option_map (λ r. r.id) (holding_record recs p) ≡ spawn_with rows recs p.id
+own_spawn rows recs p own = sym (ap (λ o. option_and_then as_spawn (option_map (holder_at recs) o)) own ∙ as_spawn_of (holding_record recs p))
 
 -- the spawn that holds an id, where it is claimed
 abbrev claimed : (List ℕ → Option ℕ) → List (List ℕ) → List (List ℕ) → List ℕ → Option ℕ
@@ -75,11 +75,11 @@ claimed h inside rw x = cond (mem x inside || mem x rw) (h x) None
 
 one_more : (b : Bool) (o : Option SpawnRec) (recs : List SpawnRec) (p : Place) (ps : List Place)
     (later : List ℕ)
-    → holding recs p ≡ o → map (λ r. r.id) (filter_map (holding recs) ps) ≡ later
-    → map (λ r. r.id) (filter_map (holding recs) (cond b (p ∷ ps) ps))
+    → holding_record recs p ≡ o → map (λ r. r.id) (filter_map (holding_record recs) ps) ≡ later
+    → map (λ r. r.id) (filter_map (holding_record recs) (cond b (p ∷ ps) ps))
     ≡ cons_option (cond b (option_map (λ r. r.id) o) None) later
-one_more true None recs p ps later e go = ap (λ o. map (λ (r : SpawnRec). r.id) (cons_option o (filter_map (holding recs) ps))) e ∙ go
-one_more true (Some r) recs p ps later e go = ap (λ o. map (λ (r : SpawnRec). r.id) (cons_option o (filter_map (holding recs) ps))) e ∙ ap (λ xs. r.id ∷ xs) go
+one_more true None recs p ps later e go = ap (λ o. map (λ (r : SpawnRec). r.id) (cons_option o (filter_map (holding_record recs) ps))) e ∙ go
+one_more true (Some r) recs p ps later e go = ap (λ o. map (λ (r : SpawnRec). r.id) (cons_option o (filter_map (holding_record recs) ps))) e ∙ ap (λ xs. r.id ∷ xs) go
 one_more false o recs p ps later e go = go
 
 by_ids : (rows : List NodeRow) (recs : List SpawnRec) (test : Place → Bool)
@@ -87,13 +87,13 @@ by_ids : (rows : List NodeRow) (recs : List SpawnRec) (test : Place → Bool)
     → AllOwn (places rows) tree
     → ((p : Place) → place_at (places rows) p.id ≡ Some p
     → test p ≡ (mem p.id inside || mem p.id rw))
-    → map (λ r. r.id) (filter_map (holding recs) (filter test tree))
+    → map (λ r. r.id) (filter_map (holding_record recs) (filter test tree))
     ≡ filter_map (claimed (spawn_with rows recs) inside rw) (ids_of tree)
 by_ids rows recs test inside rw [] own same = refl
 by_ids rows recs test inside rw (p ∷ tree) own same =
     let later = filter_map (claimed (spawn_with rows recs) inside rw) (ids_of tree) in
-    one_more (test p) (holding recs p) recs p (filter test tree) later refl (by_ids rows recs test inside rw tree own.1 same)
-    ∙ ap (λ b. cons_option (cond b (option_map (λ r. r.id) (holding recs p)) None) later) (same p own.0)
+    one_more (test p) (holding_record recs p) recs p (filter test tree) later refl (by_ids rows recs test inside rw tree own.1 same)
+    ∙ ap (λ b. cons_option (cond b (option_map (λ r. r.id) (holding_record recs p)) None) later) (same p own.0)
     ∙ ap (λ o. cons_option (cond (mem p.id inside || mem p.id rw) o None) later) (own_spawn rows recs p own.0)
 
 mapped_first : (xs : List SpawnRec)

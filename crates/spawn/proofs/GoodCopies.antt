@@ -12,8 +12,8 @@ use Rattle.ticket_items.specs.Ids.{mem, are_distinct}
 use Rattle.ticket_items.specs.Resource.{resource_ids}
 use Rattle.ticket_tree.specs.Part.{is_linked}
 use Rattle.ticket_rows.specs.Place.{Place, places, resource_places, resource_place, node_places}
-use Rattle.ticket_rows.specs.Place.{place_at, is_node, below, home_at, parent, path_of, fixed}
-use Rattle.ticket_rows.specs.Place.{fixed_at}
+use Rattle.ticket_rows.specs.Place.{below, home_at, is_node, named_thing, parent, path_of, place_at}
+use Rattle.ticket_rows.specs.Place.{named_thing_at}
 use Rattle.ticket_rows.specs.Ticket.{IsValid, ids, has_node}
 use Rattle.ticket_items.specs.declared.node_row.NodeRow.{NodeRow}
 use Rattle.ticket_items.specs.declared.resource.Resource.{Resource}
@@ -61,15 +61,15 @@ pub changes_ids : (rows : List NodeRow) (rw : List (List ℕ)) (x : List ℕ)
     ≡ (mem x rw && mem x (resource_ids (resources rows)))
 changes_ids rows rw x = kept_keys (λ y. y.id) (λ i. mem i rw) (resources rows) x
 
-pub first_of_fixed : (pool : List Resource) → map (λ f. f.0) (map fixed pool) ≡ resource_ids pool
+pub first_of_fixed : (pool : List Resource) → map (λ f. f.0) (map named_thing pool) ≡ resource_ids pool
 first_of_fixed [] = refl
 first_of_fixed (x ∷ pool) = ap (λ is. x.id ∷ is) (first_of_fixed pool)
 
-pub first_of_places : (tree : List Place) → map (λ f. f.0) (map fixed_at tree) ≡ ids_of tree
+pub first_of_places : (tree : List Place) → map (λ f. f.0) (map named_thing_at tree) ≡ ids_of tree
 first_of_places [] = refl
 first_of_places (p ∷ tree) = ap (λ is. p.id ∷ is) (first_of_places tree)
 
-fixed_ids : (pool : List Resource) (tree : List Place) → map fixed pool ≡ map fixed_at tree
+fixed_ids : (pool : List Resource) (tree : List Place) → map named_thing pool ≡ map named_thing_at tree
     → resource_ids pool ≡ ids_of tree
 fixed_ids pool tree e = sym (first_of_fixed pool) ∙ ap (map (λ f. f.0)) e ∙ first_of_places tree
 

@@ -7,7 +7,7 @@ use Rattle.std.proofs.lemmas.Slice.Eq.{bytes_eq-Decides}
 use Rattle.std.specs.Option.{option_map_or}
 use Rattle.ticket_items.specs.declared.node_row.NodeRow.{NodeRow}
 use Rattle.ticket_items.specs.declared.resource.Resource.{Resource}
-use Rattle.ticket_rows.specs.Place.{Place, Thing, node, resource, fixed, fixed_at, places}
+use Rattle.ticket_rows.specs.Place.{Place, Thing, named_thing, named_thing_at, node, places, resource}
 use Rattle.ticket_rows.specs.Place.{resource_thing}
 use Rattle.ticket_tree.proofs.PlainOneRow.{name_in, class_in}
 use Rattle.spawn.proofs.SameCopies.{ids-Decides, pairs-Decides}
@@ -23,7 +23,7 @@ thing-Decides x (node kind job_part links) = (λ h. cc, λ e. cc)
 thing-Decides x (resource name class) =
     Decides-like _ (λ (name', class'). cc) (λ e. (ap name_in e, ap class_in e)) (Decides-and _ _ (bytes_eq-Decides x.name name) (bytes_eq-Decides x.class class))
 
-copy-Decides : (x : Resource) (p : Place) → Decides (is_copy x p) (fixed x ≡ fixed_at p)
+copy-Decides : (x : Resource) (p : Place) → Decides (is_copy x p) (named_thing x ≡ named_thing_at p)
 copy-Decides x p =
     Decides-like _ (λ (id, thing). cc) (λ e. (ap (λ t. t.0) e, ap (λ t. t.1) e))
     (Decides-and _ _ (bytes_eq-Decides x.id p.id) (thing-Decides x p.thing))
@@ -33,7 +33,7 @@ copy-Decides x p =
 pub good-Decides : (rows : List NodeRow) (r : SpawnRec) → Decides (is_good rows r) (IsGood rows r)
 good-Decides rows r =
     Decides-like _ (λ ((above, rw), ro). record { has_parent = above; rw = rw; ro = ro }) (λ good. ((good.has_parent, good.rw), good.ro))
-    (Decides-and _ _ (Decides-and _ _ (λ h. h, λ h. h) (ids-Decides r.rw (ids_of (linked_rw (places rows) r.node r.rw)))) (pairs-Decides is_copy fixed fixed_at copy-Decides r.ro (linked_ro (places rows) r.node r.rw)))
+    (Decides-and _ _ (Decides-and _ _ (λ h. h, λ h. h) (ids-Decides r.rw (ids_of (linked_rw (places rows) r.node r.rw)))) (pairs-Decides is_copy named_thing named_thing_at copy-Decides r.ro (linked_ro (places rows) r.node r.rw)))
 
 -- ---- those that are out
 

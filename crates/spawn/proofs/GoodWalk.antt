@@ -14,14 +14,14 @@ use Rattle.std.specs.Str.{bytes_eq}
 use Rattle.ticket_items.proofs.Apart.{bytes_eq-same, or_none}
 use Rattle.ticket_items.specs.Ids.{mem}
 use Rattle.ticket_tree.specs.Part.{is_linked}
-use Rattle.ticket_rows.specs.Place.{fixed, Place, resource_place, places}
-use Rattle.ticket_rows.specs.Place.{places_from, is_node, below, path_of, fixed_at, node_places, up}
+use Rattle.ticket_rows.specs.Place.{Place, named_thing, places, resource_place}
+use Rattle.ticket_rows.specs.Place.{below, is_node, named_thing_at, node_places, path_of, places_from, up}
 use Rattle.ticket_items.specs.declared.node_row.NodeRow.{NodeRow}
 use Rattle.ticket_items.specs.declared.resource.Resource.{Resource}
 use Rattle.spawn.specs.Parts.{resources}
 use Rattle.ticket_items.specs.Resource.{is_alike}
 use Rattle.spawn.specs.OfResource.{has_id, behind}
-use Rattle.spawn.specs.Walk.{Left, met, all_met, are_none}
+use Rattle.spawn.specs.Walk.{Unmet, are_none, unmet_behind, unmet_behind_all}
 use Rattle.spawn.proofs.SameCopies.{heads, alike-Decides}
 use Rattle.ticket_rows.proofs.Below.{Path}
 use Rattle.spawn.proofs.Chosen.{resources_cons}
@@ -51,42 +51,42 @@ then_as : {X Y : Type 0} (f g : X → Option Y) (o : Option X) → ((x : X) → 
 then_as f g None same = refl
 then_as f g (Some x) same = same x
 
-pub all_met-append : (inside : List NodeRow) (rw : List (List ℕ)) (xs ys : List Resource)
-    (left : Left)
-    → all_met inside rw (xs ++ ys) left
-    ≡ option_and_then (all_met inside rw ys) (all_met inside rw xs left)
-all_met-append inside rw [] ys left = refl
-all_met-append inside rw (x ∷ xs) ys left =
-    then_as (all_met inside rw (xs ++ ys)) (λ l. option_and_then (all_met inside rw ys) (all_met inside rw xs l)) (met inside rw x left) (all_met-append inside rw xs ys)
-    ∙ then_then (all_met inside rw xs) (all_met inside rw ys) (met inside rw x left)
+pub unmet_behind_all-append : (inside : List NodeRow) (rw : List (List ℕ)) (xs ys : List Resource)
+    (left : Unmet)
+    → unmet_behind_all inside rw (xs ++ ys) left
+    ≡ option_and_then (unmet_behind_all inside rw ys) (unmet_behind_all inside rw xs left)
+unmet_behind_all-append inside rw [] ys left = refl
+unmet_behind_all-append inside rw (x ∷ xs) ys left =
+    then_as (unmet_behind_all inside rw (xs ++ ys)) (λ l. option_and_then (unmet_behind_all inside rw ys) (unmet_behind_all inside rw xs l)) (unmet_behind inside rw x left) (unmet_behind_all-append inside rw xs ys)
+    ∙ then_then (unmet_behind_all inside rw xs) (unmet_behind_all inside rw ys) (unmet_behind inside rw x left)
 
 -- what is left behind the rows from one on is what is left behind its pool, and then behind the
 -- other rows
 rows_from : (inside : List NodeRow) (rw : List (List ℕ)) (rows : List NodeRow) (i : ℕ) (d : NodeRow)
-    (left : Left)
+    (left : Unmet)
     → i < length rows
-    → all_met inside rw (resources (drop i rows)) left
-    ≡ option_and_then (all_met inside rw (resources (drop (i + 1) rows)))
-    (all_met inside rw (get_or rows i d).resources left)
+    → unmet_behind_all inside rw (resources (drop i rows)) left
+    ≡ option_and_then (unmet_behind_all inside rw (resources (drop (i + 1) rows)))
+    (unmet_behind_all inside rw (get_or rows i d).resources left)
 rows_from inside rw rows i d left within =
     let r = get_or rows i d in
-    ap (λ rs. all_met inside rw (resources rs) left) (drop_more rows i d within) ∙ ap (λ xs. all_met inside rw xs left) (resources_cons r (drop (i + 1) rows))
-    ∙ all_met-append inside rw r.resources (resources (drop (i + 1) rows)) left
+    ap (λ rs. unmet_behind_all inside rw (resources rs) left) (drop_more rows i d within) ∙ ap (λ xs. unmet_behind_all inside rw xs left) (resources_cons r (drop (i + 1) rows))
+    ∙ unmet_behind_all-append inside rw r.resources (resources (drop (i + 1) rows)) left
 
 pub met_more : (inside : List NodeRow) (rw : List (List ℕ)) (rows : List NodeRow) (i : ℕ)
-    (d : NodeRow) (old new : Left)
-    → i < length rows → Some new ≡ all_met inside rw (get_or rows i d).resources old
-    → all_met inside rw (resources (drop (i + 1) rows)) new
-    ≡ all_met inside rw (resources (drop i rows)) old
+    (d : NodeRow) (old new : Unmet)
+    → i < length rows → Some new ≡ unmet_behind_all inside rw (get_or rows i d).resources old
+    → unmet_behind_all inside rw (resources (drop (i + 1) rows)) new
+    ≡ unmet_behind_all inside rw (resources (drop i rows)) old
 met_more inside rw rows i d old new within step =
-    ap (option_and_then (all_met inside rw (resources (drop (i + 1) rows)))) step ∙ sym (rows_from inside rw rows i d old within)
+    ap (option_and_then (unmet_behind_all inside rw (resources (drop (i + 1) rows)))) step ∙ sym (rows_from inside rw rows i d old within)
 
 pub met_none : (inside : List NodeRow) (rw : List (List ℕ)) (rows : List NodeRow) (i : ℕ)
-    (d : NodeRow) (old : Left)
-    → i < length rows → None ≡ all_met inside rw (get_or rows i d).resources old
-    → None ≡ all_met inside rw (resources (drop i rows)) old
+    (d : NodeRow) (old : Unmet)
+    → i < length rows → None ≡ unmet_behind_all inside rw (get_or rows i d).resources old
+    → None ≡ unmet_behind_all inside rw (resources (drop i rows)) old
 met_none inside rw rows i d old within step =
-    ap (option_and_then (all_met inside rw (resources (drop (i + 1) rows)))) step ∙ sym (rows_from inside rw rows i d old within)
+    ap (option_and_then (unmet_behind_all inside rw (resources (drop (i + 1) rows)))) step ∙ sym (rows_from inside rw rows i d old within)
 
 -- ---- the copies of linked resources
 
@@ -109,17 +109,17 @@ put_is true f x rest = refl
 put_is false f x rest = refl
 
 -- whether nothing is left
-abbrev is_done : Option Left → Bool
+abbrev is_done : Option Unmet → Bool
 is_done o = option_map_or are_none o false
 
 -- the copies are those
 abbrev pub AreTheirs : List (List ℕ) → List Resource → List Resource → List Resource → Type 0
-AreTheirs ids copies changed read = (ids ≡ map (λ x. x.id) changed) × (map fixed copies ≡ map fixed read)
+AreTheirs ids copies changed read = (ids ≡ map (λ x. x.id) changed) × (map named_thing copies ≡ map named_thing read)
 
 abbrev BothWays : Type 0 → Type 0 → Type 0
 BothWays P Q = (P → Q) × (Q → P)
 
-change_at : (here : Bool) (go : Left → Option Left) (x : Resource) (i : List ℕ)
+change_at : (here : Bool) (go : Unmet → Option Unmet) (x : Resource) (i : List ℕ)
     (ids : List (List ℕ)) (copies changed read : List Resource)
     → has_id x i ≡ here
     → BothWays (is_done (go (ids, copies)) ≡ true) (AreTheirs ids copies changed read)
@@ -136,7 +136,7 @@ change_at false go x i ids copies changed read e rest = (
   λ those. absurd (true≢false (sym (ap (has_id x) (heads i x.id ids (map (λ y. y.id) changed) those.0).0 ∙ bytes_eq-same x.id) ∙ e)),
 )
 
-read_at : (here : Bool) (go : Left → Option Left) (x y : Resource) (ids : List (List ℕ))
+read_at : (here : Bool) (go : Unmet → Option Unmet) (x y : Resource) (ids : List (List ℕ))
     (copies changed read : List Resource)
     → is_alike x y ≡ here
     → BothWays (is_done (go (ids, copies)) ≡ true) (AreTheirs ids copies changed read)
@@ -145,15 +145,15 @@ read_at : (here : Bool) (go : Left → Option Left) (x y : Resource) (ids : List
     ≡ true)
     (AreTheirs ids (y ∷ copies) changed (x ∷ read))
 read_at true go x y ids copies changed read e rest = (
-  λ done. let those = rest.0 done in (those.0, ap (λ f. f ∷ map fixed copies) (sym ((alike-Decides x y).0 e)) ∙ ap (λ fs. fixed x ∷ fs) those.1),
-  λ those. rest.1 (those.0, (heads (fixed y) (fixed x) (map fixed copies) (map fixed read) those.1).1),
+  λ done. let those = rest.0 done in (those.0, ap (λ f. f ∷ map named_thing copies) (sym ((alike-Decides x y).0 e)) ∙ ap (λ fs. named_thing x ∷ fs) those.1),
+  λ those. rest.1 (those.0, (heads (named_thing y) (named_thing x) (map named_thing copies) (map named_thing read) those.1).1),
 )
 read_at false go x y ids copies changed read e rest = (
   λ done. absurd (true≢false (sym done)),
-  λ those. absurd (true≢false (sym ((alike-Decides x y).1 (sym (heads (fixed y) (fixed x) (map fixed copies) (map fixed read) those.1).0)) ∙ e)),
+  λ those. absurd (true≢false (sym ((alike-Decides x y).1 (sym (heads (named_thing y) (named_thing x) (map named_thing copies) (map named_thing read) those.1).0)) ∙ e)),
 )
 
-no_ids : (go : Left → Option Left) (x : Resource) (ids : List (List ℕ))
+no_ids : (go : Unmet → Option Unmet) (x : Resource) (ids : List (List ℕ))
     (copies changed read : List Resource)
     → ((js : List (List ℕ))
     → BothWays (is_done (go (js, copies)) ≡ true) (AreTheirs js copies changed read))
@@ -165,7 +165,7 @@ no_ids : (go : Left → Option Left) (x : Resource) (ids : List (List ℕ))
 no_ids go x [] copies changed read rest = (λ done. absurd (true≢false (sym done)), λ those. let e = those.0 in cc)
 no_ids go x (i ∷ ids) copies changed read rest = change_at (has_id x i) go x i ids copies changed read refl (rest ids)
 
-no_copies : (go : Left → Option Left) (x : Resource) (ids : List (List ℕ))
+no_copies : (go : Unmet → Option Unmet) (x : Resource) (ids : List (List ℕ))
     (copies changed read : List Resource)
     → ((ys : List Resource)
     → BothWays (is_done (go (ids, ys)) ≡ true) (AreTheirs ids ys changed read))
@@ -177,7 +177,7 @@ no_copies : (go : Left → Option Left) (x : Resource) (ids : List (List ℕ))
 no_copies go x ids [] changed read rest = (λ done. absurd (true≢false (sym done)), λ those. let e = those.1 in cc)
 no_copies go x ids (y ∷ copies) changed read rest = read_at (is_alike x y) go x y ids copies changed read refl (rest copies)
 
-met_at : (linked kept : Bool) (go : Left → Option Left) (x : Resource) (ids : List (List ℕ))
+met_at : (linked kept : Bool) (go : Unmet → Option Unmet) (x : Resource) (ids : List (List ℕ))
     (copies changed read : List Resource)
     → ((js : List (List ℕ)) (ys : List Resource)
     → BothWays (is_done (go (js, ys)) ≡ true) (AreTheirs js ys changed read))
@@ -204,21 +204,21 @@ none_left (i ∷ ids) copies = (λ done. absurd (true≢false (sym done)), λ th
 as_put : (P : Type 0) (ids : List (List ℕ)) (copies c d r s : List Resource) → c ≡ d → r ≡ s
     → BothWays P (AreTheirs ids copies c r) → BothWays P (AreTheirs ids copies d s)
 as_put P ids copies c d r s e f both = (
-  λ p. let those = both.0 p in (those.0 ∙ ap (map (λ x. x.id)) e, those.1 ∙ ap (map fixed) f),
-  λ those. both.1 (those.0 ∙ ap (map (λ x. x.id)) (sym e), those.1 ∙ ap (map fixed) (sym f)),
+  λ p. let those = both.0 p in (those.0 ∙ ap (map (λ x. x.id)) e, those.1 ∙ ap (map named_thing) f),
+  λ those. both.1 (those.0 ∙ ap (map (λ x. x.id)) (sym e), those.1 ∙ ap (map named_thing) (sym f)),
 )
 
 -- the walk ends with nothing left exactly if the copies are those of the linked resources, of which
 -- `rw` names those to change
 pub met_all : (inside : List NodeRow) (rw : List (List ℕ)) (xs : List Resource)
     (ids : List (List ℕ)) (copies : List Resource)
-    → BothWays (is_done (all_met inside rw xs (ids, copies)) ≡ true)
+    → BothWays (is_done (unmet_behind_all inside rw xs (ids, copies)) ≡ true)
     (AreTheirs ids copies (changed_ones inside rw xs) (read_ones inside rw xs))
 met_all inside rw [] ids copies = none_left ids copies
 met_all inside rw (x ∷ xs) ids copies =
-    as_put (is_done (all_met inside rw (x ∷ xs) (ids, copies)) ≡ true) ids copies _ (changed_ones inside rw (x ∷ xs)) _ (read_ones inside rw (x ∷ xs))
+    as_put (is_done (unmet_behind_all inside rw (x ∷ xs) (ids, copies)) ≡ true) ids copies _ (changed_ones inside rw (x ∷ xs)) _ (read_ones inside rw (x ∷ xs))
     (put_is (is_linked inside x.id) (λ y. mem y.id rw) x (linked_ones inside xs)) (put_is (is_linked inside x.id) (λ y. not (mem y.id rw)) x (linked_ones inside xs))
-    (met_at (is_linked inside x.id) (mem x.id rw) (all_met inside rw xs) x ids copies (changed_ones inside rw xs) (read_ones inside rw xs) (met_all inside rw xs))
+    (met_at (is_linked inside x.id) (mem x.id rw) (unmet_behind_all inside rw xs) x ids copies (changed_ones inside rw xs) (read_ones inside rw xs) (met_all inside rw xs))
 
 -- ---- what is linked below the node
 
@@ -315,37 +315,37 @@ none_inside rows n (p ∷ tree) on =
 -- ---- places and resources that have the same id, name and Class
 
 kept_at : (a b : Bool) (p : Place) (x : Resource) (ps : List Place) (xs : List Resource) → a ≡ b
-    → fixed_at p ≡ fixed x → map fixed_at ps ≡ map fixed xs
-    → map fixed_at (cond a (p ∷ ps) ps) ≡ map fixed (cond b (x ∷ xs) xs)
-kept_at true true p x ps xs e head later = ap (λ f. f ∷ map fixed_at ps) head ∙ ap (λ fs. fixed x ∷ fs) later
+    → named_thing_at p ≡ named_thing x → map named_thing_at ps ≡ map named_thing xs
+    → map named_thing_at (cond a (p ∷ ps) ps) ≡ map named_thing (cond b (x ∷ xs) xs)
+kept_at true true p x ps xs e head later = ap (λ f. f ∷ map named_thing_at ps) head ∙ ap (λ fs. named_thing x ∷ fs) later
 kept_at false false p x ps xs e head later = later
 kept_at true false p x ps xs e head later = cc
 kept_at false true p x ps xs e head later = cc
 
 -- so do those whose id passes a test
 fixed_kept : (t : List ℕ → Bool) (ps : List Place) (xs : List Resource)
-    → map fixed_at ps ≡ map fixed xs
-    → map fixed_at (filter (λ p. t p.id) ps) ≡ map fixed (filter (λ x. t x.id) xs)
+    → map named_thing_at ps ≡ map named_thing xs
+    → map named_thing_at (filter (λ p. t p.id) ps) ≡ map named_thing (filter (λ x. t x.id) xs)
 fixed_kept t [] [] e = refl
 fixed_kept t [] (x ∷ xs) e = cc
 fixed_kept t (p ∷ ps) [] e = cc
 fixed_kept t (p ∷ ps) (x ∷ xs) e =
-    let both = heads (fixed_at p) (fixed x) (map fixed_at ps) (map fixed xs) e in
+    let both = heads (named_thing_at p) (named_thing x) (map named_thing_at ps) (map named_thing xs) e in
     kept_at (t p.id) (t x.id) p x (filter (λ q. t q.id) ps) (filter (λ y. t y.id) xs) (ap (λ f. t f.0) both.0) both.0 (fixed_kept t ps xs both.1)
 
 pool_fixed : (path : Path) (pool : List Resource) (rest : List Place)
-    → map fixed_at (filter (λ p. not (is_node p)) (map (resource_place path) pool ++ rest))
-    ≡ map fixed pool ++ map fixed_at (filter (λ p. not (is_node p)) rest)
+    → map named_thing_at (filter (λ p. not (is_node p)) (map (resource_place path) pool ++ rest))
+    ≡ map named_thing pool ++ map named_thing_at (filter (λ p. not (is_node p)) rest)
 pool_fixed path [] rest = refl
-pool_fixed path (x ∷ pool) rest = ap (λ fs. fixed x ∷ fs) (pool_fixed path pool rest)
+pool_fixed path (x ∷ pool) rest = ap (λ fs. named_thing x ∷ fs) (pool_fixed path pool rest)
 
 rows_fixed : (before : Path) (rows : List NodeRow)
-    → map fixed_at (filter (λ p. not (is_node p)) (places_from before rows))
-    ≡ map fixed (resources rows)
+    → map named_thing_at (filter (λ p. not (is_node p)) (places_from before rows))
+    ≡ map named_thing (resources rows)
 rows_fixed before [] = refl
 rows_fixed before (r ∷ rows) =
-    pool_fixed (path_of before r) r.resources (places_from (path_of before r) rows) ∙ ap (λ fs. map fixed r.resources ++ fs) (rows_fixed (path_of before r) rows)
-    ∙ sym (ap (map fixed) (resources_cons r rows) ∙ map-append fixed r.resources (resources rows))
+    pool_fixed (path_of before r) r.resources (places_from (path_of before r) rows) ∙ ap (λ fs. map named_thing r.resources ++ fs) (rows_fixed (path_of before r) rows)
+    ∙ sym (ap (map named_thing) (resources_cons r rows) ∙ map-append named_thing r.resources (resources rows))
 
 -- ---- what is linked outside n, on the rows before and behind
 
@@ -353,17 +353,17 @@ side : (rows mid : List NodeRow) (n : List ℕ) (t : List ℕ → Bool) (before 
     (some : List NodeRow)
     → list_any (below n) (places_from before some) ≡ false
     → ((x : List ℕ) → is_linked_below (places rows) n x ≡ is_linked mid x)
-    → map fixed_at
+    → map named_thing_at
     (filter (λ p. t p.id) (filter (is_linked_outside (places rows) n) (places_from before some)))
-    ≡ map fixed (filter (λ x. t x.id) (filter (λ x. is_linked mid x.id) (resources some)))
+    ≡ map named_thing (filter (λ x. t x.id) (filter (λ x. is_linked mid x.id) (resources some)))
 side rows mid n t before some off same =
-    ap (λ ps. map fixed_at (filter (λ p. t p.id) ps)) (kept_outside rows mid n (places_from before some) off same)
+    ap (λ ps. map named_thing_at (filter (λ p. t p.id) ps)) (kept_outside rows mid n (places_from before some) off same)
     ∙ fixed_kept t (filter (λ p. is_linked mid p.id) (filter (λ p. not (is_node p)) (places_from before some))) (filter (λ x. is_linked mid x.id) (resources some))
     (fixed_kept (is_linked mid) (filter (λ p. not (is_node p)) (places_from before some)) (resources some) (rows_fixed before some))
 
 pub outside_fixed : (rows : List NodeRow) (n : List ℕ) (t : List ℕ → Bool) → (at : Around rows n)
-    → map fixed_at (filter (λ p. t p.id) (linked_outside (places rows) n))
-    ≡ map fixed
+    → map named_thing_at (filter (λ p. t p.id) (linked_outside (places rows) n))
+    ≡ map named_thing
     (filter (λ x. t x.id)
     (filter (λ x. is_linked (at.root ∷ at.inner) x.id) (resources at.front ++ resources at.back)))
 outside_fixed rows n t at =
@@ -377,22 +377,22 @@ outside_fixed rows n t at =
     let same : (x : List ℕ) → is_linked_below (places rows) n x ≡ is_linked mid x = λ x. linked_is rows n x at in
     let cut : filter lo (places rows) ≡ filter lo front ++ filter lo back =
     ap (filter lo) (whole_is rows n at) ∙ filter-append lo front (inner ++ back) ∙ ap (λ ps. filter lo front ++ ps) (filter-append lo inner back ∙ ap (λ ps. ps ++ filter lo back) (none_inside rows n inner at.all_inner)) in
-    ap (λ ps. map fixed_at (filter (λ p. t p.id) ps)) cut
-    ∙ ap (map fixed_at) (filter-append (λ p. t p.id) (filter lo front) (filter lo back))
-    ∙ map-append fixed_at (filter (λ p. t p.id) (filter lo front)) (filter (λ p. t p.id) (filter lo back))
-    ∙ ap (λ fs. fs ++ map fixed_at (filter (λ p. t p.id) (filter lo back))) (side rows mid n t [] at.front at.none_front same)
-    ∙ ap (λ fs. map fixed (filter (λ x. t x.id) (filter lk (resources at.front))) ++ fs) (side rows mid n t (path_after path mid) at.back at.none_back same)
-    ∙ sym (ap (λ xs. map fixed (filter (λ x. t x.id) xs)) (filter-append lk (resources at.front) (resources at.back))
-    ∙ ap (map fixed) (filter-append (λ x. t x.id) (filter lk (resources at.front)) (filter lk (resources at.back)))
-    ∙ map-append fixed (filter (λ x. t x.id) (filter lk (resources at.front))) (filter (λ x. t x.id) (filter lk (resources at.back))))
+    ap (λ ps. map named_thing_at (filter (λ p. t p.id) ps)) cut
+    ∙ ap (map named_thing_at) (filter-append (λ p. t p.id) (filter lo front) (filter lo back))
+    ∙ map-append named_thing_at (filter (λ p. t p.id) (filter lo front)) (filter (λ p. t p.id) (filter lo back))
+    ∙ ap (λ fs. fs ++ map named_thing_at (filter (λ p. t p.id) (filter lo back))) (side rows mid n t [] at.front at.none_front same)
+    ∙ ap (λ fs. map named_thing (filter (λ x. t x.id) (filter lk (resources at.front))) ++ fs) (side rows mid n t (path_after path mid) at.back at.none_back same)
+    ∙ sym (ap (λ xs. map named_thing (filter (λ x. t x.id) xs)) (filter-append lk (resources at.front) (resources at.back))
+    ∙ ap (map named_thing) (filter-append (λ x. t x.id) (filter lk (resources at.front)) (filter lk (resources at.back)))
+    ∙ map-append named_thing (filter (λ x. t x.id) (filter lk (resources at.front))) (filter (λ x. t x.id) (filter lk (resources at.back))))
 
 -- ---- the copies
 
 abbrev AreCopied : List NodeRow → SpawnRec → Type 0
-AreCopied rows r = (r.rw ≡ ids_of (linked_rw (places rows) r.node r.rw)) × (map fixed r.ro ≡ map fixed_at (linked_ro (places rows) r.node r.rw))
+AreCopied rows r = (r.rw ≡ ids_of (linked_rw (places rows) r.node r.rw)) × (map named_thing r.ro ≡ map named_thing_at (linked_ro (places rows) r.node r.rw))
 
 abbrev copied_in : List NodeRow → List NodeRow → List NodeRow → SpawnRec → Bool
-copied_in front inside back r = option_map_or are_none (all_met inside r.rw (resources front ++ resources back) (r.rw, r.ro)) false
+copied_in front inside back r = option_map_or are_none (unmet_behind_all inside r.rw (resources front ++ resources back) (r.rw, r.ro)) false
 
 changed_ids : (rows : List NodeRow) (r : SpawnRec) → (at : Around rows r.node)
     → map (λ x. x.id)

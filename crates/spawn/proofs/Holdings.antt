@@ -18,7 +18,7 @@ use Rattle.ticket_items.specs.declared.node_row.NodeRow.{NodeRow}
 use Rattle.ticket_rows.specs.Ticket.{ids, ids_of}
 use Rattle.spawn.proofs.HomesBelow.{ids-append}
 use Rattle.spawn.proofs.RowsBelow.{filter-append}
-use Rattle.spawn.specs.Holdings.{Holdings, IsFree, IsGiven, IsSame, OthersStay, held_by}
+use Rattle.spawn.specs.Holdings.{Holdings, IsFree, IsGiven, IsSame, OthersStay, holding_spawn}
 use Rattle.spawn.specs.Holdings.{holdings_in}
 
 -- ---- in a map by texts
@@ -36,7 +36,7 @@ looked x (e ∷ es) =
     ∙ ap (cond (is_eq (slice_cmp nat_cmp x (string_bytes e.0))) (Some e.1)) (looked x es)
 
 pub held_in : {A : Type 0} (m : BTreeMap (String A) ℕ) (x : List ℕ)
-    → held_by (holdings_in m) x ≡ get_by_text m x
+    → holding_spawn (holdings_in m) x ≡ get_by_text m x
 held_in m x = looked x m.entries
 
 -- a clone has the same
@@ -78,7 +78,7 @@ removed_in x y who m n h same was updates =
 
 pub given_as : (f g : List ℕ → Bool) (who : Option ℕ) (h after : Holdings)
     → ((x : List ℕ) → f x ≡ g x) → IsGiven f who h after → IsGiven g who h after
-given_as f g who h after same given = record { each = λ x. given.each x ∙ ap (λ b. cond b who (held_by h x)) (same x) }
+given_as f g who h after same given = record { each = λ x. given.each x ∙ ap (λ b. cond b who (holding_spawn h x)) (same x) }
 
 pub given_none : (who : Option ℕ) (h : Holdings) → IsGiven (λ x. false) who h h
 given_none who h = record { each = λ x. refl }
@@ -91,7 +91,7 @@ either false b who was = refl
 pub given_more : (f g : List ℕ → Bool) (who : Option ℕ) (h mid after : Holdings)
     → IsGiven f who h mid → IsGiven g who mid after → IsGiven (λ x. f x || g x) who h after
 given_more f g who h mid after first second =
-    record { each = λ x. second.each x ∙ ap (cond (g x) who) (first.each x) ∙ either (f x) (g x) who (held_by h x) }
+    record { each = λ x. second.each x ∙ ap (cond (g x) who) (first.each x) ∙ either (f x) (g x) who (holding_spawn h x) }
 
 -- what stands behind the ids that were given so far
 pub given_grown : (done more all : List (List ℕ)) (who : Option ℕ) (h mid after : Holdings)
@@ -115,7 +115,7 @@ given_next done y all who h mid after first second whole = given_grown done (y �
 -- ids that weren't given are held as before
 pub others_stay : (f : List ℕ → Bool) (who : Option ℕ) (h after : Holdings) → IsGiven f who h after
     → OthersStay f h after
-others_stay f who h after given = record { each = λ x fails. given.each x ∙ ap (λ b. cond b who (held_by h x)) fails }
+others_stay f who h after given = record { each = λ x fails. given.each x ∙ ap (λ b. cond b who (holding_spawn h x)) fails }
 
 pub others_as : (f g : List ℕ → Bool) (h after : Holdings) → ((x : List ℕ) → f x ≡ g x)
     → OthersStay f h after → OthersStay g h after
@@ -129,13 +129,13 @@ others_of_front done more all who h mid after first still whole =
     record {
       each = λ x out.
           let parts = or_parts (mem x done) (mem x more) (sym (ap (mem x) whole ∙ mem-append x done more) ∙ out) in
-          ap (λ es. held_by es x) still ∙ (others_stay (λ y. mem y done) who h mid first).each x parts.0;
+          ap (λ es. holding_spawn es x) still ∙ (others_stay (λ y. mem y done) who h mid first).each x parts.0;
     }
 
 undone_at : (b : Bool) (f : List ℕ → Bool) (h mid after : Holdings) (x : List ℕ) → f x ≡ b
-    → OthersStay f h mid → IsGiven f None mid after → IsFree f h → held_by after x ≡ held_by h x
-undone_at true f h mid after x e others given free = given.each x ∙ ap (λ b. cond b None (held_by mid x)) e ∙ sym (free.none x e)
-undone_at false f h mid after x e others given free = given.each x ∙ ap (λ b. cond b None (held_by mid x)) e ∙ others.each x e
+    → OthersStay f h mid → IsGiven f None mid after → IsFree f h → holding_spawn after x ≡ holding_spawn h x
+undone_at true f h mid after x e others given free = given.each x ∙ ap (λ b. cond b None (holding_spawn mid x)) e ∙ sym (free.none x e)
+undone_at false f h mid after x e others given free = given.each x ∙ ap (λ b. cond b None (holding_spawn mid x)) e ∙ others.each x e
 
 -- what is given back that none held is as it was
 pub undone : (f : List ℕ → Bool) (h mid after : Holdings) → OthersStay f h mid

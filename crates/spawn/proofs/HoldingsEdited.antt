@@ -29,7 +29,7 @@ use Rattle.spawn.specs.Claim.{is_claimed}
 use Rattle.spawn.specs.HoldingsLaws.{EditKeepsTable}
 use Rattle.spawn.specs.Laws.{StandApart}
 use Rattle.spawn.specs.Records.{is_out}
-use Rattle.spawn.specs.Table.{as_spawn, holder_at, holder_of, holding, holds, spawn_with}
+use Rattle.spawn.specs.Table.{as_spawn, holder_at, holder_of, holding_record, holds, spawn_with}
 use Rattle.spawn.specs.declared.tables.holder.Holder.{Holder}
 use Rattle.spawn.specs.declared.tables.holder.Holder.TheVariants.{Master, Spawn}
 use Rattle.spawn.specs.declared.records.spawn_rec.SpawnRec.{SpawnRec}
@@ -175,7 +175,7 @@ new_unheld : (e : Edit) (at : ℕ) (rows : List NodeRow) (recs : List SpawnRec) 
     (p : Place) (o : Option SpawnRec)
     → IsValid rows → StandApart rows recs → refusal_of e rows ≡ None
     → holder_of rows recs (target e) ≡ Some Master → place_at (places rows) x ≡ None
-    → place_at (places (edited_rows e at rows)) x ≡ Some p → holding recs p ≡ o → o ≡ None
+    → place_at (places (edited_rows e at rows)) x ≡ Some p → holding_record recs p ≡ o → o ≡ None
 new_unheld e at rows recs x p None valid apart free mine nowhere there held = refl
 new_unheld e at rows recs x p (Some r) valid apart free mine nowhere there held =
     let parts = held_is_claimed recs r p held in
@@ -195,7 +195,7 @@ new_is_masters e at rows recs i x valid apart free mine added own =
     let stands = new_stands e (places rows) i x added own nowhere in
     let there = ap (λ tree. place_at tree x) (edit_of_places e at rows valid free) ∙ stands.1 in
     ap (option_map (holder_at recs)) there
-    ∙ ap (λ o. Some (option_map_or (λ (r : SpawnRec). Spawn r.id) o Master)) (new_unheld e at rows recs x stands.0 (holding recs stands.0) valid apart free mine nowhere there refl)
+    ∙ ap (λ o. Some (option_map_or (λ (r : SpawnRec). Spawn r.id) o Master)) (new_unheld e at rows recs x stands.0 (holding_record recs stands.0) valid apart free mine nowhere there refl)
 
 -- ---- what spawns hold after an edit
 

@@ -13,11 +13,11 @@ use Rattle.spawn.proofs.NoneHeld.{none_held}
 use Rattle.spawn.specs.Claim.{is_claimed}
 use Rattle.ticket_rows.specs.Ticket.{Job}
 use Rattle.ticket_tree.proofs.PlainOneRow.{append_of_places}
-use Rattle.spawn.specs.Holdings.{Holdings, IsFree, IsGiven, IsSame, IsTable, claims, held_by}
+use Rattle.spawn.specs.Holdings.{Holdings, IsFree, IsGiven, IsSame, IsTable, claims, holding_spawn}
 use Rattle.spawn.specs.HoldingsLaws.{ClaimIsFree, EndKeepsTable, SpawnKeepsTable}
 use Rattle.spawn.specs.Records.{is_out}
-use Rattle.spawn.specs.Spawning.{new_record, parent_of, spawned, spawned_audit}
-use Rattle.spawn.specs.Table.{as_spawn, holder_at, holding, holds}
+use Rattle.spawn.specs.Spawning.{job_after_spawn, new_record, parent_of, spawned_audit}
+use Rattle.spawn.specs.Table.{as_spawn, holder_at, holding_record, holds}
 use Rattle.spawn.specs.declared.tables.holder.Holder.TheVariants.{Master, Spawn}
 use Rattle.spawn.specs.declared.records.spawn_rec.SpawnRec.{SpawnRec}
 
@@ -42,13 +42,13 @@ given_by false tree recs news r who x p gives there claimed = sym (gives.others 
 given_place : (o : Option Place) (rows : List NodeRow) (recs news : List SpawnRec) (r : SpawnRec)
     (who : Option ℕ) (h : Holdings) (x : List ℕ)
     → Gives (places rows) recs news r who → IsTable rows recs h → place_at (places rows) x ≡ o
-    → cond (claims rows r x) who (held_by h x)
+    → cond (claims rows r x) who (holding_spawn h x)
     ≡ option_and_then as_spawn (option_map (holder_at news) o)
 given_place None rows recs news r who h x gives table there =
-    ap (λ o. cond (option_map_or (is_claimed r.node r.rw) o false) who (held_by h x)) there
+    ap (λ o. cond (option_map_or (is_claimed r.node r.rw) o false) who (holding_spawn h x)) there
     ∙ table.same x ∙ ap (λ o. option_and_then as_spawn (option_map (holder_at recs) o)) there
 given_place (Some p) rows recs news r who h x gives table there =
-    ap (λ o. cond (option_map_or (is_claimed r.node r.rw) o false) who (held_by h x)) there
+    ap (λ o. cond (option_map_or (is_claimed r.node r.rw) o false) who (holding_spawn h x)) there
     ∙ ap (cond (is_claimed r.node r.rw p) who) (table.same x ∙ ap (λ o. option_and_then as_spawn (option_map (holder_at recs) o)) there)
     ∙ given_by (is_claimed r.node r.rw p) (places rows) recs news r who x p gives there refl
 
@@ -93,8 +93,8 @@ spawn_keeps_table rows later recs r h after still out table free given =
     claim_kept rows later recs (recs ++ r ∷ []) r (Some r.id) h after still
     (record {
       own = λ x p there claimed. ap whose (find-append (holds p) recs (r ∷ []))
-          ∙ last_holds (holding recs p) r (holds p r) (free_at rows recs r h x p table free there claimed) (ap (λ b. b && is_claimed r.node r.rw p) out ∙ claimed);
-      others = λ x p there off. ap whose (find-append (holds p) recs (r ∷ []) ∙ or_else (holding recs p) r (holds p r) (ap (λ b. b && is_claimed r.node r.rw p) out ∙ off));
+          ∙ last_holds (holding_record recs p) r (holds p r) (free_at rows recs r h x p table free there claimed) (ap (λ b. b && is_claimed r.node r.rw p) out ∙ claimed);
+      others = λ x p there off. ap whose (find-append (holds p) recs (r ∷ []) ∙ or_else (holding_record recs p) r (holds p r) (ap (λ b. b && is_claimed r.node r.rw p) out ∙ off));
     }) table given
 
 -- one that isn't out changes nothing
@@ -107,7 +107,7 @@ none_keeps_table rows recs r h off table =
   where
     place : (o : Option Place) → option_map (holder_at recs) o ≡ option_map (holder_at (recs ++ r ∷ [])) o
     place None = refl
-    place (Some p) = ap (λ o. Some (option_map_or (λ (s : SpawnRec). Spawn s.id) o Master)) (sym (find-append (holds p) recs (r ∷ []) ∙ or_else (holding recs p) r (holds p r) (ap (λ b. b && is_claimed r.node r.rw p) off)))
+    place (Some p) = ap (λ o. Some (option_map_or (λ (s : SpawnRec). Spawn s.id) o Master)) (sym (find-append (holds p) recs (r ∷ []) ∙ or_else (holding_record recs p) r (holds p r) (ap (λ b. b && is_claimed r.node r.rw p) off)))
 
 pub claim_is_free : ClaimIsFree
 claim_is_free rows recs number n worker ids time h none table =
@@ -117,24 +117,24 @@ claim_is_free rows recs number n worker ids time h none table =
     r = new_record rows number n worker ids time
 
     by : (o : Option Place) (x : List ℕ) → place_at (places rows) x ≡ o
-        → option_map_or (is_claimed r.node r.rw) o false ≡ true → held_by h x ≡ None
+        → option_map_or (is_claimed r.node r.rw) o false ≡ true → holding_spawn h x ≡ None
     by None x there claimed = cc
     by (Some p) x there claimed =
-        let held : holding recs p ≡ None = none_held (is_claimed n ids) recs (places rows) x p (free rows recs number n ids none) there (wanted_too rows number n worker ids time p claimed) in
+        let held : holding_record recs p ≡ None = none_held (is_claimed n ids) recs (places rows) x p (free rows recs number n ids none) there (wanted_too rows number n worker ids time p claimed) in
         table.same x ∙ ap (λ o. option_and_then as_spawn (option_map (holder_at recs) o)) there ∙ ap whose held
 
 -- whether it goes out or fails, which changes nothing
 pub tried_keeps_table : {X E : Type 0} (result : Result X E) (t later : Job)
     (recs news : List SpawnRec) (r : SpawnRec) (h after : Holdings)
     → is_out r ≡ true → IsTable t.rows recs h → IsFree (claims t.rows r) h
-    → OnOk result (later ≡ spawned t r) → OnOk result (news ≡ recs ++ r ∷ [])
+    → OnOk result (later ≡ job_after_spawn t r) → OnOk result (news ≡ recs ++ r ∷ [])
     → OnOk result (IsGiven (claims t.rows r) (Some r.id) h after)
     → OnErr result (later ≡ t) → OnErr result (news ≡ recs) → OnErr result (IsSame h after)
     → IsTable later.rows news after
 tried_keeps_table (Ok x) t later recs news r h after out table free made put given _ _ _ =
     subst (λ (u : Job). IsTable u.rows news after) (sym made)
-    (subst (λ rs. IsTable (spawned t r).rows rs after) (sym put)
-    (spawn_keeps_table t.rows (spawned t r).rows recs r h after (append_of_places (parent_of t.rows r.node) (spawned_audit t.rows r) t.rows) out table free given))
+    (subst (λ rs. IsTable (job_after_spawn t r).rows rs after) (sym put)
+    (spawn_keeps_table t.rows (job_after_spawn t r).rows recs r h after (append_of_places (parent_of t.rows r.node) (spawned_audit t.rows r) t.rows) out table free given))
 tried_keeps_table (Err e) t later recs news r h after out table free _ _ _ still same alike =
     subst (λ (u : Job). IsTable u.rows news after) (sym still) (subst (λ rs. IsTable t.rows rs after) (sym same) (record { same = λ x. alike.each x ∙ table.same x }))
 
@@ -144,10 +144,10 @@ pub end_keeps_table : EndKeepsTable
 end_keeps_table rows later recs k r ended h after still apart at out off table given =
     claim_kept rows later recs (slice_set recs k ended) r None h after still
     (record {
-      own = λ x p there claims'. ap whose (none_holds (holding (slice_set recs k ended) p) rows recs k r ended x p apart at out off there claims' refl);
+      own = λ x p there claims'. ap whose (none_holds (holding_record (slice_set recs k ended) p) rows recs k r ended x p apart at out off there claims' refl);
       others = λ x p there free'. ap whose (find_set (holds p) recs k r ended at (ap (λ b. b && is_claimed r.node r.rw p) out ∙ free') (holds_nothing p ended off));
     }) table
     (moved given)
   where
     moved : IsGiven (claims later r) None h after → IsGiven (claims rows r) None h after
-    moved is = record { each = λ x. is.each x ∙ ap (λ tree. cond (option_map_or (is_claimed r.node r.rw) (place_at tree x) false) None (held_by h x)) still }
+    moved is = record { each = λ x. is.each x ∙ ap (λ tree. cond (option_map_or (is_claimed r.node r.rw) (place_at tree x) false) None (holding_spawn h x)) still }

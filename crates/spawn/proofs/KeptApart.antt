@@ -7,7 +7,7 @@ use Rattle.std.specs.List.{find}
 use Rattle.std.specs.Option.{option_map, option_map_or}
 use Rattle.ticket_tree.proofs.PlainOneRow.{append_of_places}
 use Rattle.ticket_items.specs.Ids.{mem}
-use Rattle.ticket_rows.specs.OneRow.{appended}
+use Rattle.ticket_rows.specs.OneRow.{rows_with_audit}
 use Rattle.ticket_rows.specs.Place.{Place, places, node_places, place_at, below, up}
 use Rattle.ticket_items.specs.SpawnId.{is_spawn_number}
 use Rattle.ticket_rows.specs.Ticket.{has_node, first_of, unless}
@@ -104,7 +104,7 @@ pub spawn_keeps_apart : SpawnKeepsApart
 spawn_keeps_apart t recs number n worker ids time valid apart none =
     let rows = t.rows in
     let new = new_record rows number n worker ids time in
-    let later = appended (parent_of rows n) (spawned_audit rows new) rows in
+    let later = rows_with_audit (parent_of rows n) (spawned_audit rows new) rows in
     let still : places later ≡ places rows = append_of_places (parent_of rows n) (spawned_audit rows new) rows in
     let may = allowed rows recs number n ids none in
     record {

@@ -22,7 +22,7 @@ use Rattle.spawn.specs.Claim.{is_claimed, is_linked_below, is_linked_outside, li
 use Rattle.spawn.specs.Laws.{ClaimIsHeld, HeldIsClaimed, ParentIsMasters, StandApart}
 use Rattle.spawn.specs.Records.{IsGood, is_out}
 use Rattle.spawn.specs.Spawning.{parent_of}
-use Rattle.spawn.specs.Table.{holds, holding, holder_at, holder_of}
+use Rattle.spawn.specs.Table.{holder_at, holder_of, holding_record, holds}
 use Rattle.spawn.specs.declared.tables.holder.Holder.TheVariants.{Master, Spawn}
 use Rattle.spawn.specs.declared.records.spawn_rec.SpawnRec.{SpawnRec}
 
@@ -141,7 +141,7 @@ or_left false b h = cc
 unheld_by : (o : Option SpawnRec) (rows : List NodeRow) (recs : List SpawnRec) (k : ℕ)
     (r : SpawnRec)
     → IsValid rows → StandApart rows recs → slice_get recs k ≡ Some r → is_out r ≡ true
-    → (at : Family rows r.node) → holding recs at.above ≡ o → o ≡ None
+    → (at : Family rows r.node) → holding_record recs at.above ≡ o → o ≡ None
 unheld_by None rows recs k r valid apart there out at e = refl
 unheld_by (Some q) rows recs k r valid apart there out at e =
     let parts = held_is_claimed recs q at.above e in
@@ -160,4 +160,4 @@ pub parent_is_masters : ParentIsMasters
 parent_is_masters rows recs valid apart k r there out =
     let at = family rows r.node valid (apart.good k r there out).has_parent in
     ap (holder_of rows recs) at.parent_is ∙ ap (option_map (holder_at recs)) at.above_there
-    ∙ ap (λ o. Some (option_map_or (λ s. Spawn s.id) o Master)) (unheld_by (holding recs at.above) rows recs k r valid apart there out at refl)
+    ∙ ap (λ o. Some (option_map_or (λ s. Spawn s.id) o Master)) (unheld_by (holding_record recs at.above) rows recs k r valid apart there out at refl)

@@ -15,10 +15,10 @@ use Rattle.ticket_rows.specs.Ticket.{max_depth}
 use Rattle.ticket_items.specs.declared.node_row.NodeRow.{NodeRow}
 use Rattle.ticket_items.specs.declared.resource.Resource.{Resource}
 use Rattle.spawn.proofs.Split.{AreDeep}
-use Rattle.spawn.specs.Parts.{lifted}
+use Rattle.spawn.specs.Parts.{lifted_row}
 
 abbrev pub all_lifted : ℕ → List NodeRow → List NodeRow
-all_lifted levels rows = map (lifted levels) rows
+all_lifted levels rows = map (lifted_row levels) rows
 
 -- ---- the tree
 

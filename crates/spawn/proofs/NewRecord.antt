@@ -10,8 +10,8 @@ use Rattle.ticket_items.proofs.Apart.{bytes_eq-same}
 use Rattle.ticket_items.specs.Ids.{mem}
 use Rattle.ticket_items.specs.Resource.{resource_ids}
 use Rattle.ticket_tree.specs.Part.{is_linked}
-use Rattle.ticket_rows.specs.Place.{places, node_places, nodes_in, up, fixed}
-use Rattle.ticket_rows.specs.Place.{fixed_at}
+use Rattle.ticket_rows.specs.Place.{named_thing, node_places, nodes_in, places, up}
+use Rattle.ticket_rows.specs.Place.{named_thing_at}
 use Rattle.ticket_rows.specs.Ticket.{IsValid, has_node}
 use Rattle.ticket_items.specs.declared.node_row.NodeRow.{NodeRow}
 use Rattle.ticket_items.specs.declared.resource.Resource.{Resource}
@@ -124,7 +124,7 @@ new_is_good rows number n worker ids time valid known parent =
     record {
       has_parent = parent;
       rw = ap ids_of (sym (refilter (λ p. p.id) (λ x. mem x ids) linked));
-      ro = ap (map fixed) (reads_are rows n ids valid at) ∙ sym (kept_fixed (λ x. wanted at x && not (mem x ids)) rows) ∙ ap (map fixed_at) (sym (linked_and rows n (λ x. not (mem x ids)) valid at) ∙ sym (refilter_others (λ p. p.id) (λ x. mem x ids) linked));
+      ro = ap (map named_thing) (reads_are rows n ids valid at) ∙ sym (kept_fixed (λ x. wanted at x && not (mem x ids)) rows) ∙ ap (map named_thing_at) (sym (linked_and rows n (λ x. not (mem x ids)) valid at) ∙ sym (refilter_others (λ p. p.id) (λ x. mem x ids) linked));
     }
 
 -- a good record stays good while nothing moves
@@ -134,7 +134,7 @@ good_stays rows other r same good =
     record {
       has_parent = ap (λ tree. is_some (up (nodes_in tree) r.node)) same ∙ good.has_parent;
       rw = good.rw ∙ ap (λ tree. ids_of (linked_rw tree r.node r.rw)) (sym same);
-      ro = good.ro ∙ ap (λ tree. map fixed_at (linked_ro tree r.node r.rw)) (sym same);
+      ro = good.ro ∙ ap (λ tree. map named_thing_at (linked_ro tree r.node r.rw)) (sym same);
     }
 
 -- a record with its copies

@@ -18,8 +18,8 @@ use Rattle.ticket_items.proofs.Apart.{or_none, contains-inserted, texts_of, text
 use Rattle.ticket_items.specs.Ids.{mem}
 use Rattle.spawn.proofs.RowsBelow.{filter-append}
 use Rattle.spawn.specs.IdSet.{IdSet, is_in}
-use Rattle.spawn.specs.Marking.{out}
-use Rattle.spawn.specs.OutTables.{Numbers, numbers_in, pushed, if_any}
+use Rattle.spawn.specs.Marking.{records_out}
+use Rattle.spawn.specs.OutTables.{Numbers, if_any, numbers_in, numbers_with}
 use Rattle.spawn.specs.Records.{is_out}
 use Rattle.spawn.specs.declared.records.spawn_rec.SpawnRec.{SpawnRec}
 
@@ -32,17 +32,17 @@ any_last p xs x = list_any-append p xs (x ∷ []) ∙ ap (λ b. list_any p xs ||
 -- ---- one record more
 
 out_at : (b : Bool) (recs : List SpawnRec) (r : SpawnRec) → is_out r ≡ b
-    → out (recs ++ r ∷ []) ≡ out recs ++ cond b (r ∷ []) []
-out_at b recs r e = filter-append is_out recs (r ∷ []) ∙ ap (λ c. out recs ++ cond c (r ∷ []) []) e
+    → records_out (recs ++ r ∷ []) ≡ records_out recs ++ cond b (r ∷ []) []
+out_at b recs r e = filter-append is_out recs (r ∷ []) ∙ ap (λ c. records_out recs ++ cond c (r ∷ []) []) e
 
 pub out_more : (recs : List SpawnRec) (i : ℕ) (d : SpawnRec) → i < length recs
     → is_out (get_or recs i d) ≡ true
-    → out (take (i + 1) recs) ≡ out (take i recs) ++ get_or recs i d ∷ []
-out_more recs i d within e = ap out (take_more recs i d within) ∙ out_at true (take i recs) (get_or recs i d) e
+    → records_out (take (i + 1) recs) ≡ records_out (take i recs) ++ get_or recs i d ∷ []
+out_more recs i d within e = ap records_out (take_more recs i d within) ∙ out_at true (take i recs) (get_or recs i d) e
 
 pub out_same : (recs : List SpawnRec) (i : ℕ) (d : SpawnRec) → i < length recs
-    → is_out (get_or recs i d) ≡ false → out (take (i + 1) recs) ≡ out (take i recs)
-out_same recs i d within e = ap out (take_more recs i d within) ∙ out_at false (take i recs) (get_or recs i d) e ∙ append-nil (out (take i recs))
+    → is_out (get_or recs i d) ≡ false → records_out (take (i + 1) recs) ≡ records_out (take i recs)
+out_same recs i d within e = ap records_out (take_more recs i d within) ∙ out_at false (take i recs) (get_or recs i d) e ∙ append-nil (records_out (take i recs))
 
 -- ---- one spawn more
 
@@ -69,7 +69,7 @@ any_pushed (m ∷ ns) n = refl
 
 numbers_at : (b : Bool) (p : SpawnRec → Bool) (rs : List SpawnRec) (r : SpawnRec) → p r ≡ b
     → if_any (map (λ s. s.id) (filter p (rs ++ r ∷ [])))
-    ≡ pushed b r.id (if_any (map (λ s. s.id) (filter p rs)))
+    ≡ numbers_with b r.id (if_any (map (λ s. s.id) (filter p rs)))
 numbers_at true p rs r e =
     ap (λ ss. if_any (map (λ s. s.id) ss)) (filter-append p rs (r ∷ []) ∙ ap (λ c. filter p rs ++ cond c (r ∷ []) []) e) ∙ ap if_any (map-append (λ s. s.id) (filter p rs) (r ∷ []))
     ∙ any_pushed (map (λ s. s.id) (filter p rs)) r.id
@@ -79,7 +79,7 @@ numbers_at false p rs r e =
 -- the numbers of one spawn more
 pub numbers_more : (p : SpawnRec → Bool) (spawns : List (Bor SpawnRec)) (i : ℕ) (d : Bor SpawnRec)
     → i < length spawns
-    → pushed (p (get_or spawns i d).now) (get_or spawns i d).now.id
+    → numbers_with (p (get_or spawns i d).now) (get_or spawns i d).now.id
     (if_any (map (λ s. s.id) (filter p (spawns_in (take i spawns)))))
     ≡ if_any (map (λ s. s.id) (filter p (spawns_in (take (i + 1) spawns))))
 numbers_more p spawns i d within =
@@ -90,7 +90,7 @@ numbers_more p spawns i d within =
 put_at : (b i : Bool) (n : ℕ) (known : Vec ℕ) (here there mid : Option (List ℕ)) → i ≡ b
     → known.items ≡ unwrap_or here [] ++ n ∷ [] → (b ≡ true → there ≡ here)
     → (b ≡ false → mid ≡ there)
-    → cond i (Some known.items) mid ≡ pushed b n there
+    → cond i (Some known.items) mid ≡ numbers_with b n there
 put_at true true n known here there mid e items same other = ap Some (items ∙ ap (λ o. unwrap_or o [] ++ n ∷ []) (sym (same refl)))
 put_at false false n known here there mid e items same other = other refl
 put_at true false n known here there mid e items same other = cc
@@ -109,7 +109,7 @@ pub put_number : (old mid new : Numbers) (id : Bor (List ℕ)) (n : ℕ) (known 
     → known.items ≡ unwrap_or (numbers_in old id.now) [] ++ n ∷ []
     → ((x : List ℕ) → bytes_eq id.now x ≡ false → numbers_in mid x ≡ numbers_in old x)
     → Updates (λ a b. slice_cmp nat_cmp a.now b.now) mid new id (Some known) → (x : List ℕ)
-    → numbers_in new x ≡ pushed (bytes_eq id.now x) n (numbers_in old x)
+    → numbers_in new x ≡ numbers_with (bytes_eq id.now x) n (numbers_in old x)
 put_number old mid new id n known items others updates x =
     let i = is_eq (slice_cmp nat_cmp id.now x) in
     ap (option_map (λ v. v.items)) (updates.0 (borrowed x)) ∙ mapped_cond i known _
@@ -118,14 +118,14 @@ put_number old mid new id n known items others updates x =
 -- ---- each id once
 
 push_at : (here seen : Bool) (n : ℕ) (known : Option (List ℕ)) → (here ≡ true → seen ≡ false)
-    → pushed here n (pushed seen n known) ≡ pushed (seen || here) n known
+    → numbers_with here n (numbers_with seen n known) ≡ numbers_with (seen || here) n known
 push_at true true n known apart = absurd (true≢false (apart refl))
 push_at true false n known apart = refl
 push_at false true n known apart = refl
 push_at false false n known apart = refl
 
 skip_at : (here seen : Bool) (n : ℕ) (known : Option (List ℕ)) → (here ≡ true → seen ≡ true)
-    → pushed seen n known ≡ pushed (seen || here) n known
+    → numbers_with seen n known ≡ numbers_with (seen || here) n known
 skip_at true true n known there = refl
 skip_at true false n known there = absurd (true≢false (sym (there refl)))
 skip_at false true n known there = refl
@@ -140,25 +140,25 @@ mem_more ts i d x within = ap (mem x) (texts_more ts i d within) ∙ any_last (�
 pub number_pushed : (ts : List (Bor (List ℕ))) (i : ℕ) (d : Bor (List ℕ)) (n : ℕ)
     (first old new : Option (List ℕ)) (x : List ℕ)
     → i < length ts → mem (get_or ts i d).now (texts_of (take i ts)) ≡ false
-    → old ≡ pushed (mem x (texts_of (take i ts))) n first
-    → new ≡ pushed (bytes_eq (get_or ts i d).now x) n old
-    → new ≡ pushed (mem x (texts_of (take (i + 1) ts))) n first
+    → old ≡ numbers_with (mem x (texts_of (take i ts))) n first
+    → new ≡ numbers_with (bytes_eq (get_or ts i d).now x) n old
+    → new ≡ numbers_with (mem x (texts_of (take (i + 1) ts))) n first
 number_pushed ts i d n first old new x within unseen before step =
     let t = (get_or ts i d).now in
-    step ∙ ap (pushed (bytes_eq t x) n) before
+    step ∙ ap (numbers_with (bytes_eq t x) n) before
     ∙ push_at (bytes_eq t x) (mem x (texts_of (take i ts))) n first (λ same. ap (λ y. mem y (texts_of (take i ts))) (sym ((bytes_eq-Decides t x).0 same)) ∙ unseen)
-    ∙ ap (λ b. pushed b n first) (sym (mem_more ts i d x within))
+    ∙ ap (λ b. numbers_with b n first) (sym (mem_more ts i d x within))
 
 -- and one that was seen has it
 pub number_kept : (ts : List (Bor (List ℕ))) (i : ℕ) (d : Bor (List ℕ)) (n : ℕ)
     (first old : Option (List ℕ)) (x : List ℕ)
     → i < length ts → mem (get_or ts i d).now (texts_of (take i ts)) ≡ true
-    → old ≡ pushed (mem x (texts_of (take i ts))) n first
-    → old ≡ pushed (mem x (texts_of (take (i + 1) ts))) n first
+    → old ≡ numbers_with (mem x (texts_of (take i ts))) n first
+    → old ≡ numbers_with (mem x (texts_of (take (i + 1) ts))) n first
 number_kept ts i d n first old x within seen before =
     let t = (get_or ts i d).now in
     before ∙ skip_at (bytes_eq t x) (mem x (texts_of (take i ts))) n first (λ same. ap (λ y. mem y (texts_of (take i ts))) (sym ((bytes_eq-Decides t x).0 same)) ∙ seen)
-    ∙ ap (λ b. pushed b n first) (sym (mem_more ts i d x within))
+    ∙ ap (λ b. numbers_with b n first) (sym (mem_more ts i d x within))
 
 -- what was seen, one id further
 pub seen_more : (ts : List (Bor (List ℕ))) (i : ℕ) (d : Bor (List ℕ)) (old new : IdSet) (x : List ℕ)

@@ -13,8 +13,8 @@ use Rattle.ticket_tree.proofs.PlainOneRow.{append_of_places}
 use Rattle.ticket_tree.proofs.OnPlaces.{stands_node}
 use Rattle.ticket_items.specs.Ids.{mem}
 use Rattle.ticket_tree.specs.Laws.{HasParentAt, IsRootAt}
-use Rattle.ticket_rows.specs.OneRow.{appended}
-use Rattle.ticket_tree.specs.Part.{copied}
+use Rattle.ticket_rows.specs.OneRow.{rows_with_audit}
+use Rattle.ticket_tree.specs.Part.{part_copy}
 use Rattle.ticket_rows.specs.Place.{Place, places, node_places, nodes_in, place_at, parent, up}
 use Rattle.ticket_rows.specs.Place.{is_below, below}
 use Rattle.ticket_items.specs.SpawnId.{is_spawn_number}
@@ -27,7 +27,7 @@ use Rattle.ticket_items.specs.declared.refusal.Refusal.TheVariants.{UnknownResou
 use Rattle.ticket_items.specs.declared.refusal.Refusal.TheVariants.{TooManySpawns}
 use Rattle.spawn.proofs.Ancestry.{reverse-cons}
 use Rattle.spawn.proofs.Chosen.{resources_cons}
-use Rattle.spawn.specs.Parts.{above, ancestor, ancestors, lifted, part_for, resources}
+use Rattle.spawn.specs.Parts.{above, ancestor, ancestors, lifted_row, part_for, resources}
 use Rattle.spawn.specs.Parts.{resources_among}
 use Rattle.ticket_tree.specs.At.{rows_below}
 use Rattle.spawn.specs.Spawning.{new_record, parent_of, spawn_refusal}
@@ -100,10 +100,10 @@ part_kept t s g keeps still same =
     let f : NodeRow → Bool = λ r. is_below (node_places rows) r.id n in
     let below_n : rows_below new n ≡ rows_below rows n =
     ap (λ tree. filter (λ r. is_below (nodes_in tree) r.id n) new) still ∙ filter_changed f g (λ r. ap (λ i. is_below (node_places rows) i n) (keeps.id r)) same rows in
-    ap (λ a. copied t.job_id s.id (map (ancestor new) a) (map (lifted (length a)) (rows_below new n)) (resources_among s.rw new) s.ro) high
-    ∙ ap (λ a. copied t.job_id s.id a (map (lifted (length (above rows n))) (rows_below new n)) (resources_among s.rw new) s.ro) (all_ancestors g keeps rows (above rows n))
-    ∙ ap (λ rs. copied t.job_id s.id (ancestors rows n) (map (lifted (length (above rows n))) rs) (resources_among s.rw new) s.ro) below_n
-    ∙ ap (λ xs. copied t.job_id s.id (ancestors rows n) (map (lifted (length (above rows n))) (rows_below rows n)) (filter (λ x. mem x.id s.rw) xs) s.ro) (resources_changed g keeps rows)
+    ap (λ a. part_copy t.job_id s.id (map (ancestor new) a) (map (lifted_row (length a)) (rows_below new n)) (resources_among s.rw new) s.ro) high
+    ∙ ap (λ a. part_copy t.job_id s.id a (map (lifted_row (length (above rows n))) (rows_below new n)) (resources_among s.rw new) s.ro) (all_ancestors g keeps rows (above rows n))
+    ∙ ap (λ rs. part_copy t.job_id s.id (ancestors rows n) (map (lifted_row (length (above rows n))) rs) (resources_among s.rw new) s.ro) below_n
+    ∙ ap (λ xs. part_copy t.job_id s.id (ancestors rows n) (map (lifted_row (length (above rows n))) (rows_below rows n)) (filter (λ x. mem x.id s.rw) xs) s.ro) (resources_changed g keeps rows)
 
 -- ---- an audit at the parent
 
@@ -162,7 +162,7 @@ same_row false audit r rows n x e apart there = refl
 -- the part of a spawn is the same once an audit more stands at the parent of its node
 pub part_told : (t : Job) (s : SpawnRec) (audit : Audit) → IsValid t.rows
     → is_some (up (node_places t.rows) s.node) ≡ true
-    → part_for (record t { rows = appended (parent_of t.rows s.node) audit t.rows }) s
+    → part_for (record t { rows = rows_with_audit (parent_of t.rows s.node) audit t.rows }) s
     ≡ part_for t s
 part_told t s audit valid has =
     let x = parent_of t.rows s.node in

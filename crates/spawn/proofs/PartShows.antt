@@ -29,7 +29,7 @@ use Rattle.spawn.proofs.Split.{Around, around}
 use Rattle.spawn.proofs.Standing.{ids_apart, named}
 use Rattle.spawn.specs.Claim.{is_claimed, is_linked_below, is_linked_outside}
 use Rattle.spawn.specs.Laws.{PartShowsClaim, PartShowsNoMore}
-use Rattle.spawn.specs.Parts.{above, lifted, part_for, resources, resources_among}
+use Rattle.spawn.specs.Parts.{above, lifted_row, part_for, resources, resources_among}
 use Rattle.spawn.specs.Records.{IsGood}
 use Rattle.spawn.specs.declared.records.spawn_rec.SpawnRec.{SpawnRec}
 
@@ -111,10 +111,10 @@ view f g own t r x valid good at =
     let mid = at.root ∷ at.inner in
     let levels : ℕ = length (above rows r.node) in
     let copies = resources_among r.rw rows in
-    let here = ap (λ rs. look (entries f g (with_copies (map (lifted levels) rs) copies [])) x) (rows_below-around rows r.node valid at) in
+    let here = ap (λ rs. look (entries f g (with_copies (map (lifted_row levels) rs) copies [])) x) (rows_below-around rows r.node valid at) in
     record {
-      inner = λ there. here ∙ look_rows f g own (map (lifted levels) mid) copies x (no_copy rows r x valid good at there) ∙ ap (λ ls. look ls x) (entries_lifted f g own levels mid) ∙ sym (look_inside f g rows r.node x valid at there);
-      copy = λ out. here ∙ look_copies f g own (lifted levels at.root) (map (lifted levels) at.inner) copies x (ap (mem x) (ids_lifted levels mid) ∙ out);
+      inner = λ there. here ∙ look_rows f g own (map (lifted_row levels) mid) copies x (no_copy rows r x valid good at there) ∙ ap (λ ls. look ls x) (entries_lifted f g own levels mid) ∙ sym (look_inside f g rows r.node x valid at there);
+      copy = λ out. here ∙ look_copies f g own (lifted_row levels at.root) (map (lifted_row levels) at.inner) copies x (ap (mem x) (ids_lifted levels mid) ∙ out);
     }
 
 claimed_at : {V : Type 0} (b : Bool) (f : NodeRow → V) (g : Resource → V) → IsOwn f

@@ -15,10 +15,10 @@ use Rattle.spawn.proofs.Chosen.{resources_cons, filter_as, filter_twice}
 use Rattle.ticket_tree.proofs.OwnPlaces.{OwnPlaces, stands_below, own_places-rows}
 use Rattle.spawn.proofs.RowsBelow.{filter-append}
 use Rattle.spawn.specs.Claim.{is_claimed, claim, ids_of}
-use Rattle.spawn.specs.Parts.{resources, resources_among, above, ancestor, ancestors, lifted}
+use Rattle.spawn.specs.Parts.{above, ancestor, ancestors, lifted_row, resources, resources_among}
 use Rattle.ticket_tree.specs.At.{rows_below}
 use Rattle.ticket_items.proofs.Apart.{bytes_eq-same}
-use Rattle.ticket_tree.specs.Part.{copied}
+use Rattle.ticket_tree.specs.Part.{part_copy}
 use Rattle.ticket_rows.specs.Ticket.{IsValid, ids}
 use Rattle.ticket_tree.proofs.Pieces.{known, with_row, pieces_are}
 use Rattle.spawn.proofs.HomesBelow.{or_right}
@@ -174,8 +174,8 @@ part_stays t u r valid valid' job places_stay rows_stay above_stay =
     let nodes : rows_below u.rows n ≡ rows_below t.rows n = below_claimed u.rows n rw valid' ∙ ap (λ es. (build (filter (below_n n) es)).1) same ∙ sym (below_claimed t.rows n rw valid) in
     let copies : resources_among rw u.rows ≡ resources_among rw t.rows = sym (picked_claimed n rw u.rows) ∙ ap (picked rw) same ∙ picked_claimed n rw t.rows in
     let levels : length (above u.rows n) ≡ length (above t.rows n) = sym (length-map (above u.rows n) (ancestor u.rows)) ∙ ap length above_stay ∙ length-map (above t.rows n) (ancestor t.rows) in
-    ap (λ j. copied j r.id (ancestors u.rows n) (map (lifted (length (above u.rows n))) (rows_below u.rows n)) (resources_among rw u.rows) r.ro) job
-    ∙ ap (λ a. copied t.job_id r.id a (map (lifted (length (above u.rows n))) (rows_below u.rows n)) (resources_among rw u.rows) r.ro) above_stay
-    ∙ ap (λ k. copied t.job_id r.id (ancestors t.rows n) (map (lifted k) (rows_below u.rows n)) (resources_among rw u.rows) r.ro) levels
-    ∙ ap (λ rows. copied t.job_id r.id (ancestors t.rows n) (map (lifted (length (above t.rows n))) rows) (resources_among rw u.rows) r.ro) nodes
-    ∙ ap (λ xs. copied t.job_id r.id (ancestors t.rows n) (map (lifted (length (above t.rows n))) (rows_below t.rows n)) xs r.ro) copies
+    ap (λ j. part_copy j r.id (ancestors u.rows n) (map (lifted_row (length (above u.rows n))) (rows_below u.rows n)) (resources_among rw u.rows) r.ro) job
+    ∙ ap (λ a. part_copy t.job_id r.id a (map (lifted_row (length (above u.rows n))) (rows_below u.rows n)) (resources_among rw u.rows) r.ro) above_stay
+    ∙ ap (λ k. part_copy t.job_id r.id (ancestors t.rows n) (map (lifted_row k) (rows_below u.rows n)) (resources_among rw u.rows) r.ro) levels
+    ∙ ap (λ rows. part_copy t.job_id r.id (ancestors t.rows n) (map (lifted_row (length (above t.rows n))) rows) (resources_among rw u.rows) r.ro) nodes
+    ∙ ap (λ xs. part_copy t.job_id r.id (ancestors t.rows n) (map (lifted_row (length (above t.rows n))) (rows_below t.rows n)) xs r.ro) copies

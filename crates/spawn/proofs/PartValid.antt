@@ -29,7 +29,7 @@ use Rattle.spawn.proofs.HomesBelow.{not_above}
 use Rattle.spawn.proofs.Lifting.{all_lifted, outline_lifted, unreserved_lifted, shallow_lifted}
 use Rattle.spawn.proofs.Lifting.{ids_lifted, homes_lifted}
 use Rattle.spawn.proofs.Split.{path_after, AreDeep, Around}
-use Rattle.spawn.specs.Parts.{lifted}
+use Rattle.spawn.specs.Parts.{lifted_row}
 
 -- ---- the copies
 
@@ -122,7 +122,7 @@ rows_resolved all part n up whole swap q (r ∷ rows) deep linked res =
     let long : length (q ++ n ∷ up) ≡ length q + suc levels = length-append q (n ∷ up) in
     let short : length (q ++ n ∷ []) ≡ length q + 1 = length-append q (n ∷ []) in
     let cut : length (q ++ n ∷ []) - ((r.depth - levels) - 1) ≡ length (q ++ n ∷ up) - (r.depth - 1) = omega (arith, low, long, short) in
-    let lifted_path : path_of (q ++ n ∷ []) (lifted levels r) ≡ kept ++ n ∷ [] = below_x n q [] (lifted levels r) (omega (arith, low)) ∙ ap (λ m. (r.id ∷ drop m q) ++ n ∷ []) cut in
+    let lifted_path : path_of (q ++ n ∷ []) (lifted_row levels r) ≡ kept ++ n ∷ [] = below_x n q [] (lifted_row levels r) (omega (arith, low)) ∙ ap (λ m. (r.id ∷ drop m q) ++ n ∷ []) cut in
     let here = and_parts (list_all (resolves all (path_of (q ++ n ∷ up) r)) r.links) (are_resolved_from all (path_of (q ++ n ∷ up) r) rows) res in
     and_from _ _
     (subst (λ p. list_all (resolves part p) r.links ≡ true) (sym lifted_path)
@@ -154,7 +154,7 @@ part_home : (levels : ℕ) (root : NodeRow) (inner : List NodeRow) (changes read
     || mem x (resource_ids reads))
     (Some root.id) (home_of inner x)
 part_home levels root inner changes reads x =
-    home_of-cons x (record (lifted levels root) { resources = (root.resources ++ changes) ++ reads }) (all_lifted levels inner)
+    home_of-cons x (record (lifted_row levels root) { resources = (root.resources ++ changes) ++ reads }) (all_lifted levels inner)
     ∙ ap (λ b. cond b (Some root.id) (home_of (all_lifted levels inner) x)) (pool_ids x root.resources changes reads)
     ∙ ap (cond ((mem x (resource_ids root.resources) || mem x (resource_ids changes)) || mem x (resource_ids reads)) (Some root.id)) (home_lifted levels inner x)
 
@@ -242,7 +242,7 @@ part_resolved rows n changes reads valid at copies =
     let start = resolved-append rows [] at.front below_n (resolved-append rows [] (at.front ++ below_n) at.back (subst (λ rs. are_resolved_from rows [] rs ≡ true) at.whole (sym (resolved_walk rows) ∙ valid.resolved))).0 in
     let here = and_parts (list_all (resolves rows (path_of (path_after [] at.front) at.root)) at.root.links) (are_resolved_from rows (path_of (path_after [] at.front) at.root) at.inner) start.1 in
     let none : 0 - ((at.root.depth - levels) - 1) ≡ 0 = omega arith in
-    let path : path_of [] (lifted levels at.root) ≡ n ∷ [] = ap (λ m. at.root.id ∷ drop m []) none ∙ ap (λ i. i ∷ []) at.named in
+    let path : path_of [] (lifted_row levels at.root) ≡ n ∷ [] = ap (λ m. at.root.id ∷ drop m []) none ∙ ap (λ i. i ∷ []) at.named in
     and_from _ _
     (subst (λ p. list_all (resolves part p) at.root.links ≡ true) (sym path)
     (links_resolved rows part n at.up below_n swap [] at.root.links (λ x h. ap (λ b. b || is_linked at.inner x) h) (subst (λ p. list_all (resolves rows p) at.root.links ≡ true) at.path here.0)))
@@ -264,7 +264,7 @@ part_valid rows n changes reads valid at copies =
     record {
       tree = outline-copies part changes reads ∙ outline_lifted n at.up at.root at.inner at.level at.follows at.deep;
       unreserved = unreserved-copies part changes reads ∙ unreserved_lifted levels below_n ∙ all_around (λ r. not (is_reserved r.status)) rows n at valid.unreserved;
-      distinct = distinct_copies (lifted levels at.root) (all_lifted levels at.inner) changes reads (ap are_distinct same ∙ own) copies.distinct_changes copies.distinct_reads copies.apart
+      distinct = distinct_copies (lifted_row levels at.root) (all_lifted levels at.inner) changes reads (ap are_distinct same ∙ own) copies.distinct_changes copies.distinct_reads copies.apart
           (λ x there. ap (mem x) same ∙ copies.changes_outside x there) (λ x there. ap (mem x) same ∙ copies.reads_outside x there);
       shallow = shallow-copies part changes reads ∙ shallow_lifted levels below_n (all_around (λ r. nat_le r.depth 32) rows n at valid.shallow);
       resolved = resolved_walk (with_copies part changes reads) ∙ resolved-copies (with_copies part changes reads) part changes reads ∙ part_resolved rows n changes reads valid at copies;

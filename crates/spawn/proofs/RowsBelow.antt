@@ -16,7 +16,7 @@ use Rattle.spawn.proofs.Split.{path_after, path_after-append, Around}
 use Rattle.spawn.specs.Parts.{resources, resources_among}
 use Rattle.spawn.proofs.HomesBelow.{all_later}
 use Rattle.ticket_tree.specs.At.{rows_below}
-use Rattle.ticket_rows.specs.Homes.{homes, homed}
+use Rattle.ticket_rows.specs.Homes.{homes, pool_with_home}
 use Rattle.ticket_items.specs.declared.resource.Resource.{Resource}
 
 -- ---- the places of the rows of two lists, one behind the other
@@ -89,7 +89,7 @@ rows_below-around rows n valid at =
 
 pub homes-append : (xs ys : List NodeRow) → homes (xs ++ ys) ≡ homes xs ++ homes ys
 homes-append [] ys = refl
-homes-append (r ∷ xs) ys = ap (λ es. homed r ++ es) (homes-append xs ys) ∙ sym (append_assoc (homed r) (homes xs) (homes ys))
+homes-append (r ∷ xs) ys = ap (λ es. pool_with_home r ++ es) (homes-append xs ys) ∙ sym (append_assoc (pool_with_home r) (homes xs) (homes ys))
 
 pub own_pool : (h : List ℕ) (pool : List Resource)
     → map {A = Resource × List ℕ} (λ e. e.0) (map (λ (x : Resource). (x, h)) pool) ≡ pool
@@ -99,7 +99,7 @@ own_pool h (x ∷ pool) = ap (λ xs. x ∷ xs) (own_pool h pool)
 pub resources_last : (rows : List NodeRow) (r : NodeRow)
     → resources (rows ++ r ∷ []) ≡ resources rows ++ r.resources
 resources_last rows r =
-    ap (map (λ e. e.0)) (homes-append rows (r ∷ []) ∙ ap (λ es. homes rows ++ es) (append-nil (homed r))) ∙ map-append {A = Resource × List ℕ} (λ e. e.0) (homes rows) (homed r) ∙ ap (λ xs. resources rows ++ xs) (own_pool r.id r.resources)
+    ap (map (λ e. e.0)) (homes-append rows (r ∷ []) ∙ ap (λ es. homes rows ++ es) (append-nil (pool_with_home r))) ∙ map-append {A = Resource × List ℕ} (λ e. e.0) (homes rows) (pool_with_home r) ∙ ap (λ xs. resources rows ++ xs) (own_pool r.id r.resources)
 
 -- those of one row more
 pub among_more : (ids : List (List ℕ)) (rows : List NodeRow) (i : ℕ) (d : NodeRow) → i < length rows

@@ -6,7 +6,7 @@ use Rattle.std.proofs.lemmas.Slice.Eq.{bytes_eq-Decides, slice_eq-Decides}
 use Rattle.std.specs.Str.{bytes_eq}
 use Rattle.ticket_items.specs.Resource.{is_alike}
 use Rattle.ticket_items.specs.declared.resource.Resource.{Resource}
-use Rattle.ticket_rows.specs.Place.{fixed}
+use Rattle.ticket_rows.specs.Place.{named_thing}
 use Rattle.ticket_tree.proofs.PlainOneRow.{name_in, class_in}
 
 pub heads : {X : Type 0} (x y : X) (xs ys : List X) → x ∷ xs ≡ y ∷ ys → (x ≡ y) × (xs ≡ ys)
@@ -26,7 +26,7 @@ pub ids-Decides : (xs ys : List (List ℕ)) → Decides (pointwise bytes_eq xs y
 ids-Decides xs ys = slice_eq-Decides bytes_eq-Decides xs ys _ refl
 
 -- a copy is alike a resource just where it has its id, name and Class
-pub alike-Decides : (x y : Resource) → Decides (is_alike x y) (fixed x ≡ fixed y)
+pub alike-Decides : (x y : Resource) → Decides (is_alike x y) (named_thing x ≡ named_thing y)
 alike-Decides x y =
     Decides-like _ (λ ((id, name), class). cc) (λ e. ((ap (λ f. f.0) e, ap (λ f. name_in f.1) e), ap (λ f. class_in f.1) e))
     (Decides-and _ _ (Decides-and _ _ (bytes_eq-Decides x.id y.id) (bytes_eq-Decides x.name y.name)) (bytes_eq-Decides x.class y.class))

@@ -25,7 +25,7 @@ use Rattle.spawn.proofs.RowsBelow.{resources_last, filter-append}
 use Rattle.spawn.proofs.GoodCopies.{ids_of_resources}
 use Rattle.spawn.specs.Claim.{ids_of}
 use Rattle.spawn.specs.IdSet.{IdSet, is_in}
-use Rattle.spawn.specs.Marking.{out, copies, copies_rw, in_order, mark}
+use Rattle.spawn.specs.Marking.{copies, copies_rw, in_order, mark, records_out}
 use Rattle.spawn.specs.OutTables.{Numbers, numbers_in, if_any, mark_in}
 use Rattle.spawn.specs.Parts.{resources}
 use Rattle.spawn.specs.declared.records.spawn_rec.SpawnRec.{SpawnRec}
@@ -105,12 +105,12 @@ kept_as f g (x ∷ xs) same = ap (λ b. cond b (x ∷ filter f xs) (filter f xs)
 
 -- the nodes that are out
 pub nodes_shown : (rows : List NodeRow) (recs : List SpawnRec) (nodes : IdSet)
-    → ((x : List ℕ) → is_in nodes x ≡ list_any (λ r. bytes_eq r.node x) (out recs))
+    → ((x : List ℕ) → is_in nodes x ≡ list_any (λ r. bytes_eq r.node x) (records_out recs))
     → filter (is_in nodes) (node_ids rows)
-    ≡ filter (λ n. list_any (λ r. bytes_eq r.node n) (out recs)) (ids_of (nodes_in (places rows)))
+    ≡ filter (λ n. list_any (λ r. bytes_eq r.node n) (records_out recs)) (ids_of (nodes_in (places rows)))
 nodes_shown rows recs nodes same =
-    kept_as (is_in nodes) (λ n. list_any (λ (r : SpawnRec). bytes_eq r.node n) (out recs)) (node_ids rows) same
-    ∙ ap (filter (λ n. list_any (λ (r : SpawnRec). bytes_eq r.node n) (out recs))) (sym (ap ids_of (node_places-rows rows) ∙ ids_of_nodes [] rows))
+    kept_as (is_in nodes) (λ n. list_any (λ (r : SpawnRec). bytes_eq r.node n) (records_out recs)) (node_ids rows) same
+    ∙ ap (filter (λ n. list_any (λ (r : SpawnRec). bytes_eq r.node n) (records_out recs))) (sym (ap ids_of (node_places-rows rows) ∙ ids_of_nodes [] rows))
 
 some_at : (b : Bool) (p : SpawnRec → Bool) (r : SpawnRec) (rs : List SpawnRec)
     → if_any (map (λ s. s.id) (filter p rs))
@@ -136,15 +136,15 @@ mapped_at true f x = refl
 mapped_at false f x = refl
 
 mark_is : (recs : List SpawnRec) (changed : IdSet) (numbers : Numbers)
-    → ((x : List ℕ) → is_in changed x ≡ list_any (copies_rw x) (out recs))
+    → ((x : List ℕ) → is_in changed x ≡ list_any (copies_rw x) (records_out recs))
     → ((x : List ℕ)
-    → numbers_in numbers x ≡ if_any (map (λ r. r.id) (filter (copies x) (out recs))))
+    → numbers_in numbers x ≡ if_any (map (λ r. r.id) (filter (copies x) (records_out recs))))
     → (x : List ℕ)
-    → mark_in changed numbers x ≡ cond (list_any (copies x) (out recs)) (Some (mark recs x)) None
+    → mark_in changed numbers x ≡ cond (list_any (copies x) (records_out recs)) (Some (mark recs x)) None
 mark_is recs changed numbers change all x =
     ap (λ b. option_map (mark_with x b) (numbers_in numbers x)) (change x)
-    ∙ ap (option_map (mark_with x (list_any (copies_rw x) (out recs)))) (all x ∙ some_numbers (copies x) (out recs))
-    ∙ mapped_at (list_any (copies x) (out recs)) (mark_with x (list_any (copies_rw x) (out recs))) (map (λ r. r.id) (filter (copies x) (out recs)))
+    ∙ ap (option_map (mark_with x (list_any (copies_rw x) (records_out recs)))) (all x ∙ some_numbers (copies x) (records_out recs))
+    ∙ mapped_at (list_any (copies x) (records_out recs)) (mark_with x (list_any (copies_rw x) (records_out recs))) (map (λ r. r.id) (filter (copies x) (records_out recs)))
 
 shown_at : (b : Bool) (f : List ℕ → Option ResMark) (g : List ℕ → ResMark) (p : List ℕ → Bool)
     (x : List ℕ) (xs : List (List ℕ))
@@ -162,12 +162,12 @@ shown f g p (x ∷ xs) same = shown_at (p x) f g p x xs (same x) (shown f g p xs
 -- the resources of which copies are out
 pub resources_shown : (rows : List NodeRow) (recs : List SpawnRec) (changed : IdSet)
     (numbers : Numbers)
-    → ((x : List ℕ) → is_in changed x ≡ list_any (copies_rw x) (out recs))
+    → ((x : List ℕ) → is_in changed x ≡ list_any (copies_rw x) (records_out recs))
     → ((x : List ℕ)
-    → numbers_in numbers x ≡ if_any (map (λ r. r.id) (filter (copies x) (out recs))))
+    → numbers_in numbers x ≡ if_any (map (λ r. r.id) (filter (copies x) (records_out recs))))
     → filter_map (mark_in changed numbers) (resource_ids (resources rows))
     ≡ map (mark recs)
-    (filter (λ x. list_any (copies x) (out recs)) (ids_of (resources_in (places rows))))
+    (filter (λ x. list_any (copies x) (records_out recs)) (ids_of (resources_in (places rows))))
 resources_shown rows recs changed numbers change all =
-    shown (mark_in changed numbers) (mark recs) (λ x. list_any (copies x) (out recs)) (resource_ids (resources rows)) (mark_is recs changed numbers change all)
-    ∙ ap (λ is. map (mark recs) (filter (λ x. list_any (copies x) (out recs)) is)) (ids_of_resources rows)
+    shown (mark_in changed numbers) (mark recs) (λ x. list_any (copies x) (records_out recs)) (resource_ids (resources rows)) (mark_is recs changed numbers change all)
+    ∙ ap (λ is. map (mark recs) (filter (λ x. list_any (copies x) (records_out recs)) is)) (ids_of_resources rows)

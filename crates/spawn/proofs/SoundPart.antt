@@ -34,7 +34,7 @@ use Rattle.spawn.proofs.Split.{AreDeep, Around, around, path_after}
 use Rattle.spawn.proofs.Standing.{ids_apart, named}
 use Rattle.spawn.specs.Claim.{ids_of, is_linked_below, is_linked_outside, linked_outside}
 use Rattle.spawn.specs.Laws.{PartIsSound}
-use Rattle.spawn.specs.Parts.{above, ancestor, ancestors, lifted, part_for, resources}
+use Rattle.spawn.specs.Parts.{above, ancestor, ancestors, lifted_row, part_for, resources}
 use Rattle.spawn.specs.Parts.{resources_among}
 use Rattle.ticket_tree.specs.At.{rows_below}
 use Rattle.spawn.specs.Records.{IsGood}
@@ -271,7 +271,7 @@ part_is_sound t r valid good =
     let mid = at.root ∷ at.inner in
     let high : above rows n ≡ reverse at.up = above_is rows n valid at in
     let levels : length (above rows n) ≡ length at.up = ap length high ∙ length-reverse at.up in
-    let below_n : (part_for t r).rows ≡ all_lifted (length at.up) mid = ap (λ m. map (lifted m) (rows_below rows n)) levels ∙ ap (map (lifted (length at.up))) (rows_below-around rows n valid at) in
+    let below_n : (part_for t r).rows ≡ all_lifted (length at.up) mid = ap (λ m. map (lifted_row m) (rows_below rows n)) levels ∙ ap (map (lifted_row (length at.up))) (rows_below-around rows n valid at) in
     let many : length (ancestors rows n) ≡ length at.up = length-map' rows (above rows n) ∙ levels in
     let names : ancestor_ids (ancestors rows n) ≡ reverse at.up = names_above rows (above rows n) ∙ high in
     let has : is_some (slice_get at.up 0) ≡ true = sym (ap (λ o. is_some (option_and_then parent o)) (root_place rows n valid at) ∙ ap (λ path. is_some (slice_get path 1)) at.path) ∙ good.has_parent in

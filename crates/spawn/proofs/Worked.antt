@@ -7,7 +7,7 @@ use Rattle.std.specs.Prelude.{codes}
 use Rattle.ticket_rows.specs.Edit.{edited_rows}
 use Rattle.ticket_rows.specs.Place.{below, places, resource, row_in}
 use Rattle.ticket_rows.specs.Ticket.{Job}
-use Rattle.ticket_tree.specs.PartView.{cut, part_row, part_thing}
+use Rattle.ticket_tree.specs.PartView.{cut_place, part_row, part_thing}
 use Rattle.ticket_items.specs.declared.audit.Audit.TheVariants.{Spawned}
 use Rattle.ticket_items.specs.declared.edit.Edit.TheVariants.{AddNode}
 use Rattle.ticket_items.specs.declared.link.Link.{Link}
@@ -22,7 +22,7 @@ use Rattle.spawn.specs.Claim.{ids_of, linked_outside, claim}
 use Rattle.spawn.specs.Holdings.{claimed_ids, claims}
 use Rattle.spawn.specs.Marking.{marks}
 use Rattle.spawn.specs.Parts.{part_for}
-use Rattle.spawn.specs.Spawning.{spawn_refusal, new_record, spawned}
+use Rattle.spawn.specs.Spawning.{job_after_spawn, new_record, spawn_refusal}
 use Rattle.spawn.specs.Stored.{are_apart, are_good, stands_in}
 use Rattle.spawn.specs.Table.{holder_of, spawn_with}
 use Rattle.spawn.specs.declared.tables.holder.Holder.TheVariants.{Master, Spawn}
@@ -83,7 +83,7 @@ abbrev told : List NodeRow
 told =
     record product { audits = Spawned 100 (codes "n1") (codes "S1") (codes "r1" ∷ []) (codes "r2" ∷ []) (codes "Waiting") ∷ [] } ∷ printing 2 ∷ cutting ∷ []
 
-first_spawned : spawned job first ≡ record { job_id = codes "J1"; rows = told }
+first_spawned : job_after_spawn job first ≡ record { job_id = codes "J1"; rows = told }
 unfolding digits
 first_spawned = refl
 
@@ -112,7 +112,7 @@ first_paper : part_thing (part_for job first) (codes "r1") ≡ None
 first_paper = refl
 
 -- the paths of the part end at the printing
-first_places : map (cut 1) (filter (below (codes "n1")) (places rows)) ≡ places (printing 1 ∷ [])
+first_places : map (cut_place 1) (filter (below (codes "n1")) (places rows)) ≡ places (printing 1 ∷ [])
 first_places = refl
 
 -- ---- refusals

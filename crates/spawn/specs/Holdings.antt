@@ -25,12 +25,12 @@ abbrev pub holdings_in : {A : Type 0} → BTreeMap (String A) ℕ → Holdings
 holdings_in m = map (λ e. (string_bytes e.0, e.1)) m.entries
 
 -- the spawn that holds an id, if it stands there
-abbrev pub held_by : Holdings → List ℕ → Option ℕ
-held_by h x = lookup (bytes_eq x) h
+abbrev pub holding_spawn : Holdings → List ℕ → Option ℕ
+holding_spawn h x = lookup (bytes_eq x) h
 
 -- the spawn that holds each id is the one that these rows and records tell
 pub record IsTable (rows : List NodeRow) (recs : List SpawnRec) (h : Holdings) : Type 0 where
-  pub same : (x : List ℕ) → held_by h x ≡ spawn_with rows recs x
+  pub same : (x : List ℕ) → holding_spawn h x ≡ spawn_with rows recs x
 
 -- whether the claim of a spawn has what stands under an id
 abbrev pub claims : List NodeRow → SpawnRec → List ℕ → Bool
@@ -45,16 +45,16 @@ claimed_ids rows r = ids (rows_below rows r.node) ++ filter (λ x. mem x (ids ro
 
 -- ids that pass a test are held by this spawn, or by none; all others as before
 pub record IsGiven (f : List ℕ → Bool) (who : Option ℕ) (before after : Holdings) : Type 0 where
-  pub each : (x : List ℕ) → held_by after x ≡ (if f x then who else held_by before x)
+  pub each : (x : List ℕ) → holding_spawn after x ≡ (if f x then who else holding_spawn before x)
 
 -- ids that fail a test are held as before
 pub record OthersStay (f : List ℕ → Bool) (before after : Holdings) : Type 0 where
-  pub each : (x : List ℕ) → f x ≡ false → held_by after x ≡ held_by before x
+  pub each : (x : List ℕ) → f x ≡ false → holding_spawn after x ≡ holding_spawn before x
 
 -- each id is held as before
 pub record IsSame (before after : Holdings) : Type 0 where
-  pub each : (x : List ℕ) → held_by after x ≡ held_by before x
+  pub each : (x : List ℕ) → holding_spawn after x ≡ holding_spawn before x
 
 -- no spawn holds an id that passes a test
 pub record IsFree (f : List ℕ → Bool) (h : Holdings) : Type 0 where
-  pub none : (x : List ℕ) → f x ≡ true → held_by h x ≡ None
+  pub none : (x : List ℕ) → f x ≡ true → holding_spawn h x ≡ None

@@ -7,17 +7,17 @@ use Rattle.ticket_items.specs.Edit.{target}
 use Rattle.ticket_rows.specs.Edit.{edited_rows, refusal_of}
 use Rattle.ticket_items.specs.Ids.{mem}
 use Rattle.ticket_tree.specs.Part.{is_sound}
-use Rattle.ticket_tree.specs.PartView.{cut, part_row, part_thing}
+use Rattle.ticket_tree.specs.PartView.{cut_place, part_row, part_thing}
 use Rattle.ticket_rows.specs.Place.{Place, below, places, place_at, row_in}
 use Rattle.ticket_rows.specs.Ticket.{Job, IsValid, has_node}
 use Rattle.ticket_items.specs.declared.edit.Edit.{Edit}
 use Rattle.ticket_items.specs.declared.node_row.NodeRow.{NodeRow}
 use Rattle.spawn.specs.Claim.{claim, ids_of, is_claimed, linked_outside}
-use Rattle.spawn.specs.Parts.{above, ancestors, lifted, part_for}
+use Rattle.spawn.specs.Parts.{above, ancestors, lifted_row, part_for}
 use Rattle.ticket_tree.specs.At.{rows_below}
 use Rattle.spawn.specs.Records.{IsGood, is_out}
-use Rattle.spawn.specs.Spawning.{new_record, parent_of, spawn_refusal, spawned}
-use Rattle.spawn.specs.Table.{holds, holding, holder_of}
+use Rattle.spawn.specs.Spawning.{job_after_spawn, new_record, parent_of, spawn_refusal}
+use Rattle.spawn.specs.Table.{holder_of, holding_record, holds}
 use Rattle.spawn.specs.declared.tables.holder.Holder.TheVariants.{Master}
 use Rattle.spawn.specs.declared.records.spawn_rec.SpawnRec.{SpawnRec}
 
@@ -35,12 +35,12 @@ ClaimIsHeld =
     (rows : List NodeRow) (recs : List SpawnRec) → StandApart rows recs
     → (k : ℕ) (r : SpawnRec) (x : List ℕ) (p : Place) → slice_get recs k ≡ Some r → is_out r ≡ true
     → place_at (places rows) x ≡ Some p → is_claimed r.node r.rw p ≡ true
-    → holding recs p ≡ Some r
+    → holding_record recs p ≡ Some r
 
 -- and what a spawn holds it claims, and it is out
 abbrev pub HeldIsClaimed : Type 0
 HeldIsClaimed =
-    (recs : List SpawnRec) (r : SpawnRec) (p : Place) → holding recs p ≡ Some r
+    (recs : List SpawnRec) (r : SpawnRec) (p : Place) → holding_record recs p ≡ Some r
     → (is_out r ≡ true) × (is_claimed r.node r.rw p ≡ true)
 
 -- the parent of a node that is out is held by the master
@@ -55,7 +55,7 @@ abbrev pub SpawnKeepsApart : Type 0
 SpawnKeepsApart =
     (t : Job) (recs : List SpawnRec) (number : ℕ) (n worker : List ℕ) (rw : List (List ℕ)) (at : ℕ)
     → IsValid t.rows → StandApart t.rows recs → spawn_refusal t.rows recs number n rw ≡ None
-    → StandApart (spawned t (new_record t.rows number n worker rw at)).rows
+    → StandApart (job_after_spawn t (new_record t.rows number n worker rw at)).rows
     (recs ++ new_record t.rows number n worker rw at ∷ [])
 
 -- as a spawn that is out ends, so that its record isn't out, and nothing moves, the records go on
@@ -139,5 +139,5 @@ PartShowsNoMore =
 abbrev pub CutPlaces : Type 0
 CutPlaces =
     (rows : List NodeRow) (n : List ℕ) → IsValid rows → has_node rows n ≡ true
-    → places (map (lifted (length (above rows n))) (rows_below rows n))
-    ≡ map (cut (length (above rows n))) (filter (below n) (places rows))
+    → places (map (lifted_row (length (above rows n))) (rows_below rows n))
+    ≡ map (cut_place (length (above rows n))) (filter (below n) (places rows))

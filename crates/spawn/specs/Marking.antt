@@ -12,8 +12,8 @@ use Rattle.spawn.specs.Claim.{ids_of}
 use Rattle.spawn.specs.Records.{is_out}
 use Rattle.spawn.specs.declared.records.spawn_rec.SpawnRec.{SpawnRec}
 
-abbrev pub out : List SpawnRec → List SpawnRec
-out recs = filter is_out recs
+abbrev pub records_out : List SpawnRec → List SpawnRec
+records_out recs = filter is_out recs
 
 -- whether a copy of the resource went with the spawn that may be changed; whether any copy did
 abbrev pub copies_rw : List ℕ → SpawnRec → Bool
@@ -37,8 +37,8 @@ abbrev pub mark : List SpawnRec → List ℕ → ResMark
 mark recs x =
     record {
       id = x;
-      status = if list_any (copies_rw x) (out recs) then SpawnedRW else SpawnedRO;
-      spawn_ids = in_order (map (λ r. r.id) (filter (copies x) (out recs)));
+      status = if list_any (copies_rw x) (records_out recs) then SpawnedRW else SpawnedRO;
+      spawn_ids = in_order (map (λ r. r.id) (filter (copies x) (records_out recs)));
     }
 
 -- the nodes that are out, and the resources of which copies are, each in ticket order
@@ -46,9 +46,9 @@ abbrev pub marks : List NodeRow → List SpawnRec → Marks
 marks rows recs =
     record {
       nodes =
-          filter (λ n. list_any (λ r. bytes_eq r.node n) (out recs))
+          filter (λ n. list_any (λ r. bytes_eq r.node n) (records_out recs))
           (ids_of (nodes_in (places rows)));
       resources =
           map (mark recs)
-          (filter (λ x. list_any (copies x) (out recs)) (ids_of (resources_in (places rows))));
+          (filter (λ x. list_any (copies x) (records_out recs)) (ids_of (resources_in (places rows))));
     }

@@ -20,9 +20,9 @@ abbrev pub numbers_in : Numbers → List ℕ → Option (List ℕ)
 numbers_in table x = option_map (λ v. v.items) (get_by (λ k. slice_cmp nat_cmp x k.now) table)
 
 -- the numbers, with one more behind them where the test holds
-abbrev pub pushed : Bool → ℕ → Option (List ℕ) → Option (List ℕ)
-pushed true n known = Some (unwrap_or known [] ++ n ∷ [])
-pushed false n known = known
+abbrev pub numbers_with : Bool → ℕ → Option (List ℕ) → Option (List ℕ)
+numbers_with true n known = Some (unwrap_or known [] ++ n ∷ [])
+numbers_with false n known = known
 
 -- the numbers, if there are some
 abbrev pub if_any : List ℕ → Option (List ℕ)

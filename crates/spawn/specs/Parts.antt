@@ -6,7 +6,7 @@ use Rattle.std.specs.Option.{option_map_or}
 use Rattle.ticket_rows.specs.Homes.{homes}
 use Rattle.ticket_items.specs.Ids.{mem}
 use Rattle.ticket_tree.specs.At.{rows_below}
-use Rattle.ticket_tree.specs.Part.{Copied, copied}
+use Rattle.ticket_tree.specs.Part.{PartCopy, part_copy}
 use Rattle.ticket_rows.specs.Place.{place_at, node_places}
 use Rattle.ticket_rows.specs.Ticket.{Job, row_of}
 use Rattle.ticket_items.specs.declared.ancestor.Ancestor.{Ancestor}
@@ -36,8 +36,8 @@ abbrev pub as_ancestor : NodeRow → Ancestor
 as_ancestor r = record { node_id = r.id; job_part = r.job_part }
 
 -- a row so many levels higher
-abbrev pub lifted : ℕ → NodeRow → NodeRow
-lifted levels r = record r { depth = r.depth - levels }
+abbrev pub lifted_row : ℕ → NodeRow → NodeRow
+lifted_row levels r = record r { depth = r.depth - levels }
 
 -- all resources, in ticket order
 abbrev pub resources : List NodeRow → List Resource
@@ -48,8 +48,8 @@ abbrev pub resources_among : List (List ℕ) → List NodeRow → List Resource
 resources_among ids rows = filter (λ x. mem x.id ids) (resources rows)
 
 -- the part of a spawn
-abbrev pub part_for : Job → SpawnRec → Copied
+abbrev pub part_for : Job → SpawnRec → PartCopy
 part_for t r =
-    copied t.job_id r.id (ancestors t.rows r.node)
-    (map (lifted (length (above t.rows r.node))) (rows_below t.rows r.node))
+    part_copy t.job_id r.id (ancestors t.rows r.node)
+    (map (lifted_row (length (above t.rows r.node))) (rows_below t.rows r.node))
     (resources_among r.rw t.rows) r.ro

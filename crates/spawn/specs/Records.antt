@@ -1,6 +1,6 @@
 -- The records of spawns: which are out, and which are good.
 use Rattle.std.specs.Prelude.{◌≡◌, Bool, true, false, List, map, is_some}
-use Rattle.ticket_rows.specs.Place.{fixed, fixed_at, places, node_places, up}
+use Rattle.ticket_rows.specs.Place.{named_thing, named_thing_at, node_places, places, up}
 use Rattle.ticket_items.specs.declared.node_row.NodeRow.{NodeRow}
 use Rattle.spawn.specs.Claim.{ids_of, linked_rw, linked_ro}
 use Rattle.spawn.specs.declared.records.phase.Phase.{Phase}
@@ -22,4 +22,4 @@ is_out r = is_out_phase r.phase
 pub record IsGood (rows : List NodeRow) (r : SpawnRec) : Type 0 where
   pub has_parent : is_some (up (node_places rows) r.node) ≡ true
   pub rw : r.rw ≡ ids_of (linked_rw (places rows) r.node r.rw)
-  pub ro : map fixed r.ro ≡ map fixed_at (linked_ro (places rows) r.node r.rw)
+  pub ro : map named_thing r.ro ≡ map named_thing_at (linked_ro (places rows) r.node r.rw)

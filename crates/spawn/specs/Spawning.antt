@@ -4,7 +4,7 @@ use Rattle.std.specs.List.{filter_map, list_all}
 use Rattle.std.specs.Option.{option_map, option_map_or}
 use Rattle.ticket_rows.specs.Homes.{has_resource}
 use Rattle.ticket_items.specs.Ids.{mem}
-use Rattle.ticket_rows.specs.OneRow.{appended}
+use Rattle.ticket_rows.specs.OneRow.{rows_with_audit}
 use Rattle.ticket_rows.specs.Place.{Place, places, node_places, up}
 use Rattle.ticket_items.specs.SpawnId.{is_spawn_number, spawn_text}
 use Rattle.ticket_rows.specs.Ticket.{Job, has_node, row_of, unless, first_of}
@@ -17,7 +17,7 @@ use Rattle.ticket_items.specs.declared.refusal.Refusal.TheVariants.{UnknownResou
 use Rattle.ticket_items.specs.declared.refusal.Refusal.TheVariants.{NotHeld, TooManySpawns}
 use Rattle.spawn.specs.Claim.{ids_of, claim, linked_outside, linked_rw, linked_ro}
 use Rattle.spawn.specs.Parts.{resources_among}
-use Rattle.spawn.specs.Table.{holding}
+use Rattle.spawn.specs.Table.{holding_record}
 use Rattle.spawn.specs.declared.records.phase.Phase.TheVariants.{Out}
 use Rattle.spawn.specs.declared.records.spawn_rec.SpawnRec.{SpawnRec}
 
@@ -25,7 +25,7 @@ use Rattle.spawn.specs.declared.records.spawn_rec.SpawnRec.{SpawnRec}
 
 -- the spawns that hold something of the claim, in ticket order of what they hold
 abbrev pub holding_claimed : List Place → List SpawnRec → List ℕ → List (List ℕ) → List SpawnRec
-holding_claimed tree recs n rw = filter_map (holding recs) (claim tree n rw)
+holding_claimed tree recs n rw = filter_map (holding_record recs) (claim tree n rw)
 
 -- the refusal for the first of the claim that the master doesn't hold
 abbrev pub not_held : List Place → List SpawnRec → List ℕ → List (List ℕ) → Option Refusal
@@ -72,5 +72,5 @@ spawned_audit rows r =
     Spawned r.at r.node (spawn_text r.id) (map (λ x. x.id) r.ro) r.rw (status_of rows r.node)
 
 -- the ticket after a spawn: its audit stands last at the node's parent
-abbrev pub spawned : Job → SpawnRec → Job
-spawned t r = record t { rows = appended (parent_of t.rows r.node) (spawned_audit t.rows r) t.rows }
+abbrev pub job_after_spawn : Job → SpawnRec → Job
+job_after_spawn t r = record t { rows = rows_with_audit (parent_of t.rows r.node) (spawned_audit t.rows r) t.rows }

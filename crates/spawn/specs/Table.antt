@@ -21,12 +21,12 @@ abbrev pub holds : Place → SpawnRec → Bool
 holds p r = is_out r && is_claimed r.node r.rw p
 
 -- the first spawn that holds what stands at the place
-abbrev pub holding : List SpawnRec → Place → Option SpawnRec
-holding recs p = find (holds p) recs
+abbrev pub holding_record : List SpawnRec → Place → Option SpawnRec
+holding_record recs p = find (holds p) recs
 
 -- who holds what stands at the place: that spawn, or else the master
 abbrev pub holder_at : List SpawnRec → Place → Holder
-holder_at recs p = option_map_or (λ r. Spawn r.id) (holding recs p) Master
+holder_at recs p = option_map_or (λ r. Spawn r.id) (holding_record recs p) Master
 
 -- who holds an id. One that doesn't stand in the ticket has no holder
 abbrev pub holder_of : List NodeRow → List SpawnRec → List ℕ → Option Holder

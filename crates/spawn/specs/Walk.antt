@@ -11,26 +11,26 @@ use Rattle.ticket_items.specs.declared.resource.Resource.{Resource}
 use Rattle.spawn.specs.OfResource.{has_id, behind}
 
 -- the copies that weren't met yet: ids of those to change, and those to read
-abbrev pub Left : Type 0
-Left = List (List ℕ) × List Resource
+abbrev pub Unmet : Type 0
+Unmet = List (List ℕ) × List Resource
 
 -- behind a linked resource: the next to change where it is among `rw`, else the next to read
-abbrev pub met_linked : List (List ℕ) → Resource → Left → Option Left
-met_linked rw x left =
+abbrev pub unmet_behind_link : List (List ℕ) → Resource → Unmet → Option Unmet
+unmet_behind_link rw x left =
     if mem x.id rw
     then option_map (λ ids. (ids, left.1)) (behind (has_id x) left.0)
     else option_map (λ copies. (left.0, copies)) (behind (is_alike x) left.1)
 
 -- what is left behind a resource, if the rows link it
-abbrev pub met : List NodeRow → List (List ℕ) → Resource → Left → Option Left
-met inside rw x left = if is_linked inside x.id then met_linked rw x left else Some left
+abbrev pub unmet_behind : List NodeRow → List (List ℕ) → Resource → Unmet → Option Unmet
+unmet_behind inside rw x left = if is_linked inside x.id then unmet_behind_link rw x left else Some left
 
 -- what is left behind these resources
-abbrev pub all_met : List NodeRow → List (List ℕ) → List Resource → Left → Option Left
-all_met inside rw [] left = Some left
-all_met inside rw (x ∷ pool) left = option_and_then (all_met inside rw pool) (met inside rw x left)
+abbrev pub unmet_behind_all : List NodeRow → List (List ℕ) → List Resource → Unmet → Option Unmet
+unmet_behind_all inside rw [] left = Some left
+unmet_behind_all inside rw (x ∷ pool) left = option_and_then (unmet_behind_all inside rw pool) (unmet_behind inside rw x left)
 
-abbrev pub are_none : Left → Bool
+abbrev pub are_none : Unmet → Bool
 are_none ([], []) = true
 are_none ([], x ∷ copies) = false
 are_none (i ∷ ids, copies) = false

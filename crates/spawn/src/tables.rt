@@ -1,6 +1,6 @@
 pub mod holder;
+pub mod holder_source;
 pub mod holders;
 pub mod holding;
-pub mod known;
 pub mod marking;
 pub mod table;

@@ -11,12 +11,12 @@ use Rattle.ticket_items.specs.Ids.{mem}
 use Rattle.ticket_items.specs.declared.refusal.Refusal.{Refusal}
 use Rattle.ticket_items.specs.declared.refusal.Refusal.TheVariants.{NotProfile}
 use Rattle.json_profile.specs.ReadAs.{IsReadAs}
-use Rattle.json_source.specs.Read.{◌>>=◌, are_among, has_only, provided}
+use Rattle.json_source.specs.Read.{◌>>=◌, are_among, has_only, some_if}
 use Rattle.master_core.specs.Master as master
 use Rattle.worker_core.specs.Worker as worker
-use Rattle.controller_form.specs.States.MasterForm.{judged_master, master_draft, master_state_read}
-use Rattle.controller_form.specs.States.StateFormat.{controller_under, format_of, read_in}
-use Rattle.controller_form.specs.States.WorkerForm.{judged_worker, worker_draft, worker_state_read}
+use Rattle.controller_form.specs.States.MasterForm.{judged_master, master_form, master_state_read}
+use Rattle.controller_form.specs.States.StateFormat.{controller_under, format_of, read_in_format}
+use Rattle.controller_form.specs.States.WorkerForm.{judged_worker, worker_form, worker_state_read}
 use Rattle.controller_form.specs.declared.states.format.Format.{Format}
 use Rattle.stored_state.specs.Kind.{kind_in, only_kind}
 use Rattle.stored_state.specs.Opened.{any_state_read, of_master, of_worker}
@@ -53,16 +53,16 @@ record IsUnder (kind : List ℕ) (d : Data) : Type 0 where
   pub only : has_only (codes "Format" ∷ kind ∷ []) d ≡ true
   pub there : get kind d ≡ Some controller
 
-provided_parts : (b : Bool) (o : Option Data) (x : Data) → (provided b >>= λ _. o) ≡ Some x → (b ≡ true) × (o ≡ Some x)
+provided_parts : (b : Bool) (o : Option Data) (x : Data) → (some_if b >>= λ _. o) ≡ Some x → (b ≡ true) × (o ≡ Some x)
 provided_parts true o x is = (refl, is)
 provided_parts false o x is = cc
 
-read_there : {R X : Type 0} (format : Result Format Refusal) (o : Option Data) (judged : Option R → Result X Refusal) (draft : Format → Data → Option R) (x : X) → judged None ≡ Err NotProfile → read_in format (λ f. judged (option_and_then (draft f) o)) ≡ Ok x → (d : Data) × (o ≡ Some d)
+read_there : {R X : Type 0} (format : Result Format Refusal) (o : Option Data) (judged : Option R → Result X Refusal) (draft : Format → Data → Option R) (x : X) → judged None ≡ Err NotProfile → read_in_format format (λ f. judged (option_and_then (draft f) o)) ≡ Ok x → (d : Data) × (o ≡ Some d)
 read_there (Ok f) None judged draft x none is = absurd (let e : Err NotProfile ≡ Ok x = sym none ∙ is in cc)
 read_there (Ok f) (Some d) judged draft x none is = (d, refl)
 read_there (Err e) o judged draft x none is = cc
 
-read_under : {R X : Type 0} (kind : List ℕ) (d : Data) (judged : Option R → Result X Refusal) (draft : Format → Data → Option R) (x : X) → judged None ≡ Err NotProfile → read_in (format_of d) (λ f. judged (option_and_then (draft f) (controller_under kind d))) ≡ Ok x → IsUnder kind d
+read_under : {R X : Type 0} (kind : List ℕ) (d : Data) (judged : Option R → Result X Refusal) (draft : Format → Data → Option R) (x : X) → judged None ≡ Err NotProfile → read_in_format (format_of d) (λ f. judged (option_and_then (draft f) (controller_under kind d))) ≡ Ok x → IsUnder kind d
 read_under kind d judged draft x none is =
     let there = read_there (format_of d) (controller_under kind d) judged draft x none is in
     let parts = provided_parts (has_only (codes "Format" ∷ kind ∷ []) d) (get kind d) there.0 there.1 in
@@ -80,12 +80,12 @@ tells_worker d under =
 
 -- ---- as a controller, whichever it is
 
-pub any_of_master : (text : List ℕ) (m : master.Known) → IsReadAs master_state_read text (Ok m) → IsReadAs any_state_read text (Ok (of_master m))
+pub any_of_master : (text : List ℕ) (m : master.State) → IsReadAs master_state_read text (Ok m) → IsReadAs any_state_read text (Ok (of_master m))
 any_of_master text m read =
-    let under = read_under (codes "Master") read.value judged_master master_draft m refl read.form in
+    let under = read_under (codes "Master") read.value judged_master master_form m refl read.form in
     record { value = read.value; utf8 = read.utf8; json = read.json; form = read_as_master read.value m (tells_master read.value under) read.form }
 
-pub any_of_worker : (text : List ℕ) (w : worker.Known) → IsReadAs worker_state_read text (Ok w) → IsReadAs any_state_read text (Ok (of_worker w))
+pub any_of_worker : (text : List ℕ) (w : worker.State) → IsReadAs worker_state_read text (Ok w) → IsReadAs any_state_read text (Ok (of_worker w))
 any_of_worker text w read =
-    let under = read_under (codes "Worker") read.value judged_worker worker_draft w refl read.form in
+    let under = read_under (codes "Worker") read.value judged_worker worker_form w refl read.form in
     record { value = read.value; utf8 = read.utf8; json = read.json; form = read_as_worker read.value w (tells_worker read.value under) read.form }

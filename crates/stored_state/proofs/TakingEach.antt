@@ -4,12 +4,12 @@ use Rattle.std.proofs.lemmas.List.{length-map, map-append}
 use Rattle.serde_json.specs.Data.{Data}
 use Rattle.ticket_items.specs.declared.refusal.Refusal.{Refusal}
 use Rattle.ticket_items.specs.declared.refusal.Refusal.TheVariants.{Memory}
-use Rattle.controller.specs.Step.{Step, leading}
+use Rattle.controller.specs.Step.{Step, with_state}
 use Rattle.controller.specs.declared.message.Message.{Message}
 use Rattle.json_profile.specs.ReadAs.{IsReadAs, IsRefusalOf}
 use Rattle.stored_state.specs.Opened.{AnyController}
 use Rattle.stored_state.specs.Step.{IsOfOrder, TextStep, in_text}
-use Rattle.stored_state.specs.TakingAll.{AreFrom, CausesNone, Gives, GivesOne, IsCausedBy, Makes, OrdersOne, TakesEach, given_as, given_of, sender_in}
+use Rattle.stored_state.specs.TakingAll.{AreFrom, CausesNone, Gives, GivesOne, IsCausedBy, Makes, OrdersOne, TakesEach, given_by_result, given_by_step, sender_in}
 use Rattle.stored_state.specs.declared.coming.Coming.{Coming}
 use Rattle.stored_state.specs.declared.taken_bytes.TakenBytes.{TakenBytes}
 
@@ -17,17 +17,17 @@ use Rattle.stored_state.specs.declared.taken_bytes.TakenBytes.{TakenBytes}
 
 module _ {C : Type 0} (seen : C → AnyController) (at : ℕ) (x : Coming) where
   -- a step that is made of a controller of one kind is one of it as any
-  pub made_as : (step : Step C Message) (sender : Option (List ℕ)) (c next : C) (taken : Result TakenBytes Refusal) → IsCausedBy at x (seen c) (leading seen (in_text step)) → ((e : Refusal) → e ≡ Memory → CausesNone x (seen c) e) → sender ≡ sender_in x → Makes step sender c taken next → GivesOne at x (seen c) taken (seen next)
+  pub made_as : (step : Step C Message) (sender : Option (List ℕ)) (c next : C) (taken : Result TakenBytes Refusal) → IsCausedBy at x (seen c) (with_state seen (in_text step)) → ((e : Refusal) → e ≡ Memory → CausesNone x (seen c) e) → sender ≡ sender_in x → Makes step sender c taken next → GivesOne at x (seen c) taken (seen next)
   made_as step sender c next (Ok taken) caused none from makes =
-      record { step = Ok (leading seen (in_text step)); takes = (caused, ap seen makes.1); gives = ap Ok makes.0; sender = makes.2 ∙ from }
+      record { step = Ok (with_state seen (in_text step)); takes = (caused, ap seen makes.1); gives = ap Ok makes.0; sender = makes.2 ∙ from }
   made_as step sender c next (Err e) caused none from makes =
       record { step = Err e; takes = (none e makes.0, ap seen makes.1); gives = refl; sender = tt }
 
   -- the same of one by an order
-  pub ordered_as : {O : Type 0} (reads : Data → Result O Refusal) (does : O → ℕ → C → Step C Message) (bytes : List ℕ) (c next : C) (taken : Result TakenBytes Refusal) → ((step : TextStep AnyController) → IsOfOrder reads bytes (λ o. leading seen (in_text (does o at c))) step → IsCausedBy at x (seen c) step) → ((e : Refusal) → IsRefusalOf reads bytes e → CausesNone x (seen c) e) → None ≡ sender_in x → OrdersOne reads does bytes at c taken next → GivesOne at x (seen c) taken (seen next)
+  pub ordered_as : {O : Type 0} (reads : Data → Result O Refusal) (does : O → ℕ → C → Step C Message) (bytes : List ℕ) (c next : C) (taken : Result TakenBytes Refusal) → ((step : TextStep AnyController) → IsOfOrder reads bytes (λ o. with_state seen (in_text (does o at c))) step → IsCausedBy at x (seen c) step) → ((e : Refusal) → IsRefusalOf reads bytes e → CausesNone x (seen c) e) → None ≡ sender_in x → OrdersOne reads does bytes at c taken next → GivesOne at x (seen c) taken (seen next)
   ordered_as reads does bytes c next taken caused none from orders =
       ⊎_elim
-      (λ made. made_as (does made.0 at c) None c next taken (caused (leading seen (in_text (does made.0 at c))) (record { order = made.0; read = made.1; is = refl })) (λ e is. none e (inr (inr is))) from made.2)
+      (λ made. made_as (does made.0 at c) None c next taken (caused (with_state seen (in_text (does made.0 at c))) (record { order = made.0; read = made.1; is = refl })) (λ e is. none e (inr (inr is))) from made.2)
       (λ why. subst (λ t. GivesOne at x (seen c) t (seen next)) (sym why.2)
       (record { step = Err why.0; takes = (none why.0 why.1, ap seen why.3); gives = refl; sender = tt })) orders
 
@@ -54,7 +54,7 @@ gives_more at some x c mid last given more taken before after pushed =
     record {
       steps = before.steps ++ after.step ∷ [];
       each = each_append at some (x ∷ []) c mid last before.steps (after.step ∷ []) before.each (last, after.takes, refl);
-      gives = map-append given_as given (taken ∷ []) ∙ ap (λ xs. xs ++ map given_as (taken ∷ [])) before.gives ∙ ap (λ t. map given_of before.steps ++ t ∷ []) after.gives ∙ sym (map-append given_of before.steps (after.step ∷ []));
+      gives = map-append given_by_result given (taken ∷ []) ∙ ap (λ xs. xs ++ map given_by_result (taken ∷ [])) before.gives ∙ ap (λ t. map given_by_step before.steps ++ t ∷ []) after.gives ∙ sym (map-append given_by_step before.steps (after.step ∷ []));
       senders = from_append some (x ∷ []) given (taken ∷ []) before.senders (after.sender, tt);
     }
 
@@ -68,4 +68,4 @@ each_as_many at (x ∷ all) c last (s ∷ steps) takes = ap suc (each_as_many at
 
 pub as_many : (at : ℕ) (all : List Coming) (c last : AnyController) (given : List (Result TakenBytes Refusal)) → Gives at all c given last → length given ≡ length all
 as_many at all c last given gives =
-    sym (length-map given given_as) ∙ ap length gives.gives ∙ length-map gives.steps given_of ∙ each_as_many at all c last gives.steps gives.each
+    sym (length-map given given_by_result) ∙ ap length gives.gives ∙ length-map gives.steps given_by_step ∙ each_as_many at all c last gives.steps gives.each

@@ -3,16 +3,16 @@ use Rattle.std.proofs.Common.{◌≡◌, ℕ, Bool, true, List, Result, Ok, Err,
 use Rattle.ticket_items.specs.declared.refusal.Refusal.{Refusal}
 use Rattle.serde_json.specs.Data.{Data}
 use Rattle.json_profile.specs.ReadAs.{IsReadAs}
-use Rattle.stored_state.specs.Held.{GivesNothing, Held, HoldsOldOrNext, IsNotSaved, ShowsEither}
+use Rattle.stored_state.specs.Held.{GivesNothing, HoldsOldOrNext, IsNotSaved, KeptState, ShowsEither}
 use Rattle.streams.specs.declared.refused.Refused.{Refused}
 use Rattle.streams.specs.declared.refused.Refused.TheVariants as refused
 
 -- the controller as another, beside the same keeper
-abbrev pub held_as : {C D K : Type 0} → (C → D) → Held C K → Held D K
+abbrev pub held_as : {C D K : Type 0} → (C → D) → KeptState C K → KeptState D K
 held_as seen kept = record { controller = seen kept.controller; keep = kept.keep; stale = kept.stale }
 
 -- why nothing is given out, told by other words and of the controller as another
-pub nothing_of : {C D K : Type 0} (seen : C → D) (is_honest : K → Bool) (held : K → List ℕ) (count : K → ℕ) (save_fails : K → List ℕ → K → Type 0) (R S : Refusal → Type 0) (T U : List ℕ → Type 0) (old new : Held C K) → ((x : Refusal) → R x → S x) → ((t : List ℕ) → T t → U t) → (e : Refused) → GivesNothing is_honest held count save_fails R T old new e → GivesNothing is_honest held count save_fails S U (held_as seen old) (held_as seen new) e
+pub nothing_of : {C D K : Type 0} (seen : C → D) (is_honest : K → Bool) (held : K → List ℕ) (count : K → ℕ) (save_fails : K → List ℕ → K → Type 0) (R S : Refusal → Type 0) (T U : List ℕ → Type 0) (old new : KeptState C K) → ((x : Refusal) → R x → S x) → ((t : List ℕ) → T t → U t) → (e : Refused) → GivesNothing is_honest held count save_fails R T old new e → GivesNothing is_honest held count save_fails S U (held_as seen old) (held_as seen new) e
 nothing_of seen h l n sf R S T U old new f g (refused.Core x) why = (
   why.0,
   ⊎_elim (λ same. inl (f x same.0, ap (held_as seen) same.1))
@@ -28,7 +28,7 @@ err_as P (Ok a) e same p = tt
 err_as P (Err f) e same p = subst P (sym same) p
 
 -- what is shown where no step is told of
-pub shown_as : {A E C K : Type 0} (P Q : C → Type 0) (r : Result A E) (old new : Held C K) → ((c : C) → P c → Q c) → ShowsEither old P new → OnErr r (ShowsEither old Q new)
+pub shown_as : {A E C K : Type 0} (P Q : C → Type 0) (r : Result A E) (old new : KeptState C K) → ((c : C) → P c → Q c) → ShowsEither old P new → OnErr r (ShowsEither old Q new)
 shown_as P Q (Ok a) old new f shown = tt
 shown_as P Q (Err e) old new f (inl same) = inl same
 shown_as P Q (Err e) old new f (inr is) = inr (f new.controller is)

@@ -7,7 +7,7 @@ use Rattle.master_core.specs.Messages as master_messages
 use Rattle.master_core.specs.Orders as master_orders
 use Rattle.worker_core.specs.Messages as worker_messages
 use Rattle.worker_core.specs.Orders as worker_orders
-use Rattle.controller.specs.Step.{leading}
+use Rattle.controller.specs.Step.{with_state}
 use Rattle.controller.specs.declared.message.Message.{Message}
 use Rattle.controller_form.specs.Orders.MasterForm.{master_order_read}
 use Rattle.controller_form.specs.Orders.WorkerForm.{worker_order_read}
@@ -27,10 +27,10 @@ text_of (of_worker w) = compact_text (worker_state_data w)
 abbrev pub IsOrdered : ℕ → List ℕ → AnyController → TextStep AnyController → Type 0
 IsOrdered at bytes (of_master m) step =
     IsOfOrder master_order_read bytes
-    (λ o. leading of_master (in_text (master_orders.order_step o at m))) step
+    (λ o. with_state of_master (in_text (master_orders.order_step o at m))) step
 IsOrdered at bytes (of_worker w) step =
     IsOfOrder worker_order_read bytes
-    (λ o. leading of_worker (in_text (worker_orders.order_step o at w))) step
+    (λ o. with_state of_worker (in_text (worker_orders.order_step o at w))) step
 
 -- why the bytes are no order of a controller, or memory ran out
 abbrev pub IsNoOrder : List ℕ → AnyController → Refusal → Type 0
@@ -38,10 +38,10 @@ IsNoOrder bytes (of_master m) e = IsRefusalOf master_order_read bytes e
 IsNoOrder bytes (of_worker w) e = IsRefusalOf worker_order_read bytes e
 
 -- the step of a controller by a message, at a time
-abbrev pub handed : ℕ → Message → AnyController → TextStep AnyController
-handed at x (of_master m) = leading of_master (in_text (master_messages.take_step x at m))
-handed at x (of_worker w) = leading of_worker (in_text (worker_messages.take_step x at w))
+abbrev pub take_step_of : ℕ → Message → AnyController → TextStep AnyController
+take_step_of at x (of_master m) = with_state of_master (in_text (master_messages.take_step x at m))
+take_step_of at x (of_worker w) = with_state of_worker (in_text (worker_messages.take_step x at w))
 
 -- the step of a controller by the message that the bytes are, at a time
 abbrev pub IsHanded : ℕ → List ℕ → AnyController → TextStep AnyController → Type 0
-IsHanded at bytes c step = IsTaken bytes (λ x. handed at x c) step
+IsHanded at bytes c step = IsTaken bytes (λ x. take_step_of at x c) step

@@ -12,7 +12,7 @@ use Rattle.streams.specs.declared.refused.Refused.TheVariants.{Core, LoadFailed,
 use Rattle.streams.specs.declared.refused.Refused.TheVariants.{Stale}
 
 -- a controller beside its keeper; stale where another state may be held than is shown
-pub record Held (C K : Type 0) : Type 0 where
+pub record KeptState (C K : Type 0) : Type 0 where
   pub controller : C
   pub keep : K
   pub stale : Bool
@@ -58,7 +58,7 @@ IsNotSaved is_honest held count save_fails text old new other = ⊥
 -- Where memory ran out once the step was done, or the save failed, it is stale from then on
 abbrev pub GivesNothing : {C K : Type 0} → (K → Bool) → (K → List ℕ) → (K → ℕ)
     → (K → List ℕ → K → Type 0) → (Refusal → Type 0) → (List ℕ → Type 0)
-    → Held C K → Held C K → Refused → Type 0
+    → KeptState C K → KeptState C K → Refused → Type 0
 GivesNothing is_honest held count save_fails Refuses IsText old new (Core e) =
     (old.stale ≡ false)
     × ((Refuses e × (new ≡ old))
@@ -73,5 +73,5 @@ GivesNothing is_honest held count save_fails Refuses IsText old new Stale =
 GivesNothing is_honest held count save_fails Refuses IsText old new other = ⊥
 
 -- what it shows where nothing is given out: the controller before the step, or the one after it
-abbrev pub ShowsEither : {C K : Type 0} → Held C K → (C → Type 0) → Held C K → Type 0
+abbrev pub ShowsEither : {C K : Type 0} → KeptState C K → (C → Type 0) → KeptState C K → Type 0
 ShowsEither old IsAfter new = (new.controller ≡ old.controller) ⊎ IsAfter new.controller

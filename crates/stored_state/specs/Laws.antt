@@ -2,7 +2,7 @@
 use Rattle.std.specs.Prelude.{◌≡◌, ◌≢◌, ℕ}
 use Rattle.controller.specs.declared.message.Message.{Message}
 use Rattle.stored_state.specs.Addressee.{master_of}
-use Rattle.stored_state.specs.AnyStep.{handed}
+use Rattle.stored_state.specs.AnyStep.{take_step_of}
 use Rattle.stored_state.specs.Opened.{AnyController}
 
 -- a message leaves each controller as it is whose job's master neither sent it nor is to take it: so
@@ -10,4 +10,4 @@ use Rattle.stored_state.specs.Opened.{AnyController}
 abbrev pub JobsStayApart : Type 0
 JobsStayApart =
     (at : ℕ) (m : Message) (c : AnyController) → master_of c ≢ m.sender → master_of c ≢ m.receiver
-    → (handed at m c).next ≡ c
+    → (take_step_of at m c).next ≡ c

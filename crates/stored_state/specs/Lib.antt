@@ -12,7 +12,7 @@ pub mod Names
 pub mod Cause
 pub mod Station
 pub mod Seat
-pub mod Told
+pub mod OrderOutcome
 pub mod Snapshot
 pub mod Saved
 pub mod TakingAll

@@ -5,14 +5,14 @@ use Rattle.serde_json.specs.Data.{Data}
 use Rattle.ticket_items.specs.declared.refusal.Refusal.{Refusal}
 use Rattle.controller_form.specs.States.MasterForm.{master_state_read}
 use Rattle.controller_form.specs.States.WorkerForm.{worker_state_read}
-use Rattle.stored_state.specs.Held.{Held}
+use Rattle.stored_state.specs.Held.{KeptState}
 use Rattle.stored_state.specs.Kind.{kind_in}
 pub use Rattle.stored_state.specs.declared.any_controller.AnyController.{AnyController}
 pub use Rattle.stored_state.specs.declared.any_controller.AnyController.TheVariants.{Master as of_master, Worker as of_worker}
 use Rattle.stored_state.specs.declared.kind.Kind.{Kind}
 use Rattle.stored_state.specs.declared.kind.Kind.TheVariants as kinds
-use Rattle.stored_state.specs.declared.opened.Opened.{Opened}
-use Rattle.stored_state.specs.declared.opened.Opened.TheVariants as opened
+use Rattle.stored_state.specs.declared.any_kept.AnyKept.{AnyKept}
+use Rattle.stored_state.specs.declared.any_kept.AnyKept.TheVariants as opened
 
 -- what data is read as, where this is its kind or the refusal of that
 abbrev pub state_read_as : Result Kind Refusal → Data → Result AnyController Refusal
@@ -26,18 +26,18 @@ any_state_read d = state_read_as (kind_in d) d
 
 -- ---- beside its keeper
 
-abbrev pub controller_in : {K : Type 0} → Opened K → AnyController
+abbrev pub controller_in : {K : Type 0} → AnyKept K → AnyController
 controller_in (opened.Master kept) = of_master kept.controller
 controller_in (opened.Worker kept) = of_worker kept.controller
 
-abbrev pub keep_in : {K : Type 0} → Opened K → K
+abbrev pub keep_in : {K : Type 0} → AnyKept K → K
 keep_in (opened.Master kept) = kept.keep
 keep_in (opened.Worker kept) = kept.keep
 
-abbrev pub is_stale_in : {K : Type 0} → Opened K → Bool
+abbrev pub is_stale_in : {K : Type 0} → AnyKept K → Bool
 is_stale_in (opened.Master kept) = kept.stale
 is_stale_in (opened.Worker kept) = kept.stale
 
-abbrev pub held_in : {K : Type 0} → Opened K → Held AnyController K
-held_in opened =
+abbrev pub kept_of : {K : Type 0} → AnyKept K → KeptState AnyController K
+kept_of opened =
     record { controller = controller_in opened; keep = keep_in opened; stale = is_stale_in opened }

@@ -14,8 +14,8 @@ abbrev pub Sending : Type 0
 Sending = ℕ × List ℕ
 
 -- the same as code tells of it
-abbrev pub seen : ℕ × Bor (List ℕ) → Sending
-seen s = (s.0, s.1.now)
+abbrev pub sending_seen : ℕ × Bor (List ℕ) → Sending
+sending_seen s = (s.0, s.1.now)
 
 -- a master's part is with the worker, or on its way there, while the spawn is out
 abbrev pub sending_of : SpawnRec → Option Sending

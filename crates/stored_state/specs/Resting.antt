@@ -7,18 +7,18 @@ use Rattle.controller.specs.declared.reply.Reply.{Reply}
 use Rattle.controller.specs.declared.reply.Reply.TheVariants as replies
 
 -- whether a reply tells of nothing that changes
-abbrev pub is_still : Reply → Bool
-is_still (replies.Sent s) = true
-is_still (replies.Already s) = true
-is_still (replies.Noted s) = true
-is_still (replies.Again s) = true
-is_still (replies.Asked s) = true
-is_still _ = false
+abbrev pub is_idle_reply : Reply → Bool
+is_idle_reply (replies.Sent s) = true
+is_idle_reply (replies.Already s) = true
+is_idle_reply (replies.Noted s) = true
+is_idle_reply (replies.Again s) = true
+is_idle_reply (replies.Asked s) = true
+is_idle_reply _ = false
 
 -- whether a step on an order leaves the controller as it was: a refusal does
-abbrev pub rests : Result Reply Refusal → Bool
-rests (Ok reply) = is_still reply
-rests (Err e) = true
+abbrev pub is_idle : Result Reply Refusal → Bool
+is_idle (Ok reply) = is_idle_reply reply
+is_idle (Err e) = true
 
 -- whether a message is that a spawn is to be given up
 abbrev pub is_abort : Body → Bool
@@ -27,5 +27,5 @@ is_abort _ = false
 
 -- whether a step on a message leaves the controller as it was. That a spawn is to be given up is
 -- looked at no further
-abbrev pub rests_on : Body → Result Reply Refusal → Bool
-rests_on body reply = not (is_abort body) && rests reply
+abbrev pub is_idle_on : Body → Result Reply Refusal → Bool
+is_idle_on body reply = not (is_abort body) && is_idle reply

@@ -7,7 +7,7 @@ use Rattle.serde_json.specs.Read.{read}
 use Rattle.ticket_items.specs.declared.refusal.Refusal.{Refusal}
 use Rattle.json_profile.specs.ReadAs.{IsReadAs}
 use Rattle.controller.specs.Step.{Step}
-use Rattle.stored_state.specs.Held.{Held}
+use Rattle.stored_state.specs.Held.{KeptState}
 
 -- a controller is the one before a step, or the one that the step leads to
 abbrev pub IsOldOrNext : {C M : Type 0} → C → Step C M → C → Type 0
@@ -20,13 +20,13 @@ abbrev pub read_in : {A : Type 0} → (Data → Result A Refusal) → List ℕ �
 read_in reads bytes = option_and_then (λ d. result_ok (reads d)) (read bytes)
 
 -- the controller whose state is held; where none is, the one that is shown
-abbrev pub kept_in : {C K : Type 0} → (Data → Result C Refusal) → (K → List ℕ) → Held C K → C
+abbrev pub kept_in : {C K : Type 0} → (Data → Result C Refusal) → (K → List ℕ) → KeptState C K → C
 kept_in state_read held seat = unwrap_or (read_in state_read (held seat.keep)) seat.controller
 
 -- the keeper is honest, and what it holds is read as a controller: the one that is shown, unless
 -- it is stale, and one of that name in any case
 pub record IsSeat {C K : Type 0} (own_name : C → List ℕ) (state_read : Data → Result C Refusal)
-    (is_honest : K → Bool) (held : K → List ℕ) (seat : Held C K) : Type 0 where
+    (is_honest : K → Bool) (held : K → List ℕ) (seat : KeptState C K) : Type 0 where
   pub honest : is_honest seat.keep ≡ true
   pub again : IsReadAs state_read (held seat.keep) (Ok (kept_in state_read held seat))
   pub fresh : seat.stale ≡ false → seat.controller ≡ kept_in state_read held seat

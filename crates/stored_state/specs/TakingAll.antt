@@ -12,7 +12,7 @@ use Rattle.controller.specs.Step.{Step}
 use Rattle.controller.specs.declared.message.Message as messages
 use Rattle.controller.specs.declared.reply.Reply.{Reply}
 use Rattle.stored_state.specs.Addressee.{is_addressed}
-use Rattle.stored_state.specs.AnyStep.{IsNoOrder, IsOrdered, handed, text_of}
+use Rattle.stored_state.specs.AnyStep.{IsNoOrder, IsOrdered, take_step_of, text_of}
 use Rattle.stored_state.specs.Held.{FailsToSave, HoldsSame, IsNotLoaded, IsReadAs, IsRefusalOf}
 use Rattle.stored_state.specs.Opened.{AnyController, any_state_read}
 use Rattle.stored_state.specs.Step.{TextStep, in_text}
@@ -28,7 +28,7 @@ use Rattle.streams.specs.declared.refused.Refused.TheVariants.{SaveFailed}
 
 -- what comes to a controller at a time causes this step of it
 abbrev pub IsCausedBy : ℕ → Coming → AnyController → TextStep AnyController → Type 0
-IsCausedBy at (comings.Message m) c step = step ≡ handed at m c
+IsCausedBy at (comings.Message m) c step = step ≡ take_step_of at m c
 IsCausedBy at (comings.Order text) c step = IsOrdered at text.items c step
 IsCausedBy at (comings.Neither why) c step = ⊥
 
@@ -55,30 +55,30 @@ TakesEach at more c steps last = ⊥
 -- ---- what is given out
 
 -- what is replied, and the text that goes out
-pub record Given : Type 0 where
+pub record ReplyAndText : Type 0 where
   pub reply : Result Reply Refusal
   pub sent : Option (List ℕ)
 
 -- that of a step
-abbrev pub step_given : {C : Type 0} → TextStep C → Given
+abbrev pub step_given : {C : Type 0} → TextStep C → ReplyAndText
 step_given s = record { reply = s.reply; sent = s.sent }
 
 -- or why there is none
-abbrev pub given_of : {C : Type 0} → Result (TextStep C) Refusal → Result Given Refusal
-given_of step = result_map_both step_given (λ e. e) step
+abbrev pub given_by_step : {C : Type 0} → Result (TextStep C) Refusal → Result ReplyAndText Refusal
+given_by_step step = result_map_both step_given (λ e. e) step
 
 -- the same as it is told
-abbrev pub taken_given : TakenBytes → Given
-taken_given t = record { reply = t.reply; sent = option_map (λ b. b.items) t.answer }
+abbrev pub given_by_bytes : TakenBytes → ReplyAndText
+given_by_bytes t = record { reply = t.reply; sent = option_map (λ b. b.items) t.answer }
 
-abbrev pub given_as : Result TakenBytes Refusal → Result Given Refusal
-given_as taken = result_map_both taken_given (λ e. e) taken
+abbrev pub given_by_result : Result TakenBytes Refusal → Result ReplyAndText Refusal
+given_by_result taken = result_map_both given_by_bytes (λ e. e) taken
 
 -- a step was made and this is given out of it; or memory ran out, and nothing was changed
 abbrev pub Makes : {C : Type 0} → Step C messages.Message → Option (List ℕ) → C
     → Result TakenBytes Refusal → C → Type 0
 Makes step sender c (Ok taken) next =
-    (taken_given taken ≡ step_given (in_text step)) × (next ≡ step.next) × (taken.sender ≡ sender)
+    (given_by_bytes taken ≡ step_given (in_text step)) × (next ≡ step.next) × (taken.sender ≡ sender)
 Makes step sender c (Err e) next = (e ≡ Memory) × (next ≡ c)
 
 -- the step of a controller by the order that the bytes are was made, or why there is none
@@ -109,7 +109,7 @@ pub record GivesOne (at : ℕ) (x : Coming) (c : AnyController) (taken : Result 
     (next : AnyController) : Type 0 where
   pub step : Result (TextStep AnyController) Refusal
   pub takes : TakesOne at x c step next
-  pub gives : given_as taken ≡ given_of step
+  pub gives : given_by_result taken ≡ given_by_step step
   pub sender : IsFrom x taken
 
 -- all this came to a controller, and this was given out of it in turn
@@ -117,7 +117,7 @@ pub record Gives (at : ℕ) (all : List Coming) (c : AnyController)
     (given : List (Result TakenBytes Refusal)) (last : AnyController) : Type 0 where
   pub steps : List (Result (TextStep AnyController) Refusal)
   pub each : TakesEach at all c steps last
-  pub gives : map given_as given ≡ map given_of steps
+  pub gives : map given_by_result given ≡ map given_by_step steps
   pub senders : AreFrom all given
 
 -- ---- saved behind the last

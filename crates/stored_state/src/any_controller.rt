@@ -2,11 +2,11 @@ ghost use Rattle.std.specs.Prelude.{◌≡◌, Ok, false, IfOk, IfErr};
 ghost use Rattle.json_profile.specs.ReadAs.{IsReadAs, IsRefusalOf};
 ghost use Rattle.stored_state.specs.Addressee.{name_of};
 ghost use Rattle.stored_state.specs.AnyStep.{text_of};
-ghost use Rattle.stored_state.specs.Opened.{any_state_read, held_in};
+ghost use Rattle.stored_state.specs.Opened.{any_state_read, kept_of};
 
+use crate::any_kept::AnyKept;
 use crate::kept::Kept;
 use crate::kind::{Kind, kind_of};
-use crate::opened::Opened;
 use controller_form::StateForm;
 use json_source::{Scratch, tree_of};
 use keepers::Keep;
@@ -36,12 +36,12 @@ impl AnyController {
     }
 
     /// It beside a keeper that holds its state.
-    pub(crate) fn beside<K: Keep>(self, keep: K) -> Opened<K>
-        ensures { held_in result ≡ record { controller = self; keep = keep; stale = false } }
+    pub(crate) fn beside<K: Keep>(self, keep: K) -> AnyKept<K>
+        ensures { kept_of result ≡ record { controller = self; keep = keep; stale = false } }
     {
         match self {
-            AnyController::Master(master) => Opened::Master(Kept::fresh(master, keep)),
-            AnyController::Worker(worker) => Opened::Worker(Kept::fresh(worker, keep)),
+            AnyController::Master(master) => AnyKept::Master(Kept::new_saved(master, keep)),
+            AnyController::Worker(worker) => AnyKept::Worker(Kept::new_saved(worker, keep)),
         }
     }
 

@@ -6,7 +6,7 @@ ghost use Rattle.ticket_items.specs.declared.refusal.Refusal.TheVariants.{Memory
 ghost use Rattle.jmf_message.specs.Decoded.{IsDecodedAs, IsRefusalOf as IsUndecoded};
 ghost use Rattle.controller.specs.Words.{may_be_sent};
 ghost use Rattle.keepers.specs.Keeper.{CountRose};
-ghost use Rattle.stored_state.specs.Cause.{caused};
+ghost use Rattle.stored_state.specs.Cause.{step_on};
 ghost use Rattle.stored_state.specs.Held.{GivesNothing, HoldsOldOrNext, HoldsSame, IsNotLoaded};
 ghost use Rattle.stored_state.specs.Held.{IsNotSaved, IsReadAs, ShowsEither};
 ghost use Rattle.stored_state.specs.Message.{IsOfMessage, message_text};
@@ -14,9 +14,9 @@ ghost use Rattle.stored_state.specs.Sender.{IsSentBy};
 ghost use Rattle.streams.specs.declared.refused.Refused.TheVariants.{Core, LoadFailed};
 ghost use Rattle.streams.specs.declared.refused.Refused.TheVariants.{SaveFailed, Stale};
 
-use crate::cause::{Cause, make};
+use crate::cause::{StepInput, make};
 use crate::order_bytes::OrderBytes;
-use crate::stored::Stored;
+use crate::stored::StoredController;
 use crate::storing::{load, save, save_step};
 use crate::taken_bytes::TakenBytes;
 use controller::{Message, Outcome};
@@ -31,16 +31,16 @@ use ticket_tree::Duplicate;
 /// is given out. Once a step could not be saved it is stale: another state may be held than is
 /// shown, and until it is loaded again no order and no message is taken.
 #[derive(Drop)]
-pub struct Kept<C: Stored, K: Keep> {
+pub struct Kept<C: StoredController, K: Keep> {
     controller: C,
     keep: K,
     stale: bool,
 }
 
-impl<C: Stored, K: Keep> Model for Kept<C, K> {
-    ghost use Rattle.stored_state.specs.Held.{Held};
+impl<C: StoredController, K: Keep> Model for Kept<C, K> {
+    ghost use Rattle.stored_state.specs.Held.{KeptState};
 
-    ghost Value = { Held C K };
+    ghost Value = { KeptState C K };
 
     ghost view = { λ kept. record {
       controller = kept.controller;
@@ -49,9 +49,9 @@ impl<C: Stored, K: Keep> Model for Kept<C, K> {
     } };
 }
 
-impl<C: Stored, K: Keep> Kept<C, K> {
+impl<C: StoredController, K: Keep> Kept<C, K> {
     /// A controller beside the keeper that holds its state.
-    pub(crate) fn fresh(controller: C, keep: K) -> Kept<C, K>
+    pub(crate) fn new_saved(controller: C, keep: K) -> Kept<C, K>
         ensures { result ≡ record { controller = controller; keep = keep; stale = false } }
     {
         Kept {
@@ -74,8 +74,8 @@ impl<C: Stored, K: Keep> Kept<C, K> {
             IsReadAs C.state_read (K.held kept.keep) (Ok kept.controller)) }
         ensures honest { IfOk result (λ kept. K.is_honest kept.keep ≡ K.is_honest keep) }
         // Proved: No call changes the keeper's place.
-        // By `place`; `Kept::open`, `Kept::order`, `Kept::take`, `Kept::reload`, `Opened::order`,
-        // `Opened::take`, `open_any`, `Snapshot::of`, `Snapshot::open`, `take_all`: `place`.
+        // By `place`; `Kept::open`, `Kept::order`, `Kept::take`, `Kept::reload`, `AnyKept::order`,
+        // `AnyKept::take`, `open_any`, `Snapshot::of`, `Snapshot::open`, `take_all`: `place`.
         ensures place { IfOk result (λ kept. K.place kept.keep ≡ K.place keep) }
         ensures fresh { IfOk result (λ kept. kept.stale ≡ false) }
         ensures only { IfErr result (λ e. (e ≡ SaveFailed) ⊎ (e ≡ Core Memory)) }
@@ -86,7 +86,7 @@ impl<C: Stored, K: Keep> Kept<C, K> {
         let text = controller.state_text(alloc)?;
         save(&mut keep, text.as_slice())?;
         drop(text);
-        Ok(Kept::fresh(controller, keep))
+        Ok(Kept::new_saved(controller, keep))
     }
 
     /// The controller whose state a keeper holds, beside the keeper, which holds it on. Refuses
@@ -106,7 +106,7 @@ impl<C: Stored, K: Keep> Kept<C, K> {
             × K.load_fails keep after × CountRose (K.count keep) (K.count after) }
     {
         let controller = load(alloc, &mut keep)?;
-        Ok(Kept::fresh(controller, keep))
+        Ok(Kept::new_saved(controller, keep))
     }
 
     /// Saves the state, and gives the text of what goes out, if anything does. It is stale from
@@ -145,20 +145,20 @@ impl<C: Stored, K: Keep> Kept<C, K> {
     pub(crate) fn step(
         &mut self,
         alloc: Global,
-        cause: Cause<C::Order>,
+        cause: StepInput<C::Order>,
         at: u64,
     ) -> Result<OrderBytes, Refused>
         requires { self.old.stale ≡ false }
         ensures reply { IfOk result (λ given. given.reply
-            ≡ (caused C.order_step C.take_step cause at self.old.controller).reply) }
+            ≡ (step_on C.order_step C.take_step cause at self.old.controller).reply) }
         ensures message { IfOk result (λ given. option_map (λ b. b.items) given.message
             ≡ option_map message_text
-            (caused C.order_step C.take_step cause at self.old.controller).sent) }
+            (step_on C.order_step C.take_step cause at self.old.controller).sent) }
         ensures read { OnOk result (IfSome
-            (caused C.order_step C.take_step cause at self.old.controller).sent
+            (step_on C.order_step C.take_step cause at self.old.controller).sent
             (λ m. IsDecodedAs (message_text m) (Ok m))) }
         ensures state { OnOk result (self.new.controller
-            ≡ (caused C.order_step C.take_step cause at self.old.controller).next) }
+            ≡ (step_on C.order_step C.take_step cause at self.old.controller).next) }
         ensures fresh { OnOk result (self.new.stale ≡ false) }
         ensures held { OnOk result (K.is_honest self.old.keep ≡ true →
             K.held self.new.keep ≡ compact_text (C.state_data self.new.controller)) }
@@ -169,14 +169,14 @@ impl<C: Stored, K: Keep> Kept<C, K> {
         ensures counted { K.count self.old.keep ≤ K.count self.new.keep }
         ensures refused { IfErr result (GivesNothing K.is_honest K.held K.count K.save_fails
             (λ e. e ≡ Memory) (λ text. text ≡ compact_text (C.state_data
-            (caused C.order_step C.take_step cause at self.old.controller).next))
+            (step_on C.order_step C.take_step cause at self.old.controller).next))
             self.old self.new) }
         ensures left { OnErr result (K.is_honest self.old.keep ≡ true →
             HoldsOldOrNext C.state_read (K.held self.old.keep)
-            (caused C.order_step C.take_step cause at self.old.controller).next
+            (step_on C.order_step C.take_step cause at self.old.controller).next
             (K.held self.new.keep)) }
         ensures shown { OnErr result (ShowsEither self.old (λ c. c
-            ≡ (caused C.order_step C.take_step cause at self.old.controller).next) self.new) }
+            ≡ (step_on C.order_step C.take_step cause at self.old.controller).next) self.new) }
     {
         let (Outcome { reply, answer }, _) = make(alloc, &mut self.controller, cause, at)?;
         let message = self.give_out(alloc, answer)?;
@@ -206,7 +206,7 @@ impl<C: Stored, K: Keep> Kept<C, K> {
             IsReadAs C.state_read (K.held self.new.keep) (Ok self.new.controller)) }
         // Proved: `Stale` is answered just while a controller is stale, whatever else is wrong,
         // and then nothing is tried.
-        // By `stale`, `refused`; `Kept::take`, `Opened::order`, `Opened::take`: `stale`,
+        // By `stale`, `refused`; `Kept::take`, `AnyKept::order`, `AnyKept::take`: `stale`,
         // `refused`; `Kept::is_stale`, `Kept::controller`.
         ensures stale { (self.old.stale ≡ true) ↔ IsErrOf result Stale }
         // Proved: Where a step isn't saved nothing of it is told: all is as it was, or the old or
@@ -228,7 +228,7 @@ impl<C: Stored, K: Keep> Kept<C, K> {
             drop(order);
             return Err(Refused::Stale);
         }
-        self.step(alloc, Cause::Order(order), at)
+        self.step(alloc, StepInput::Order(order), at)
     }
 
     /// Gives the controller the message that bytes are, at a time in seconds since 1970, and saves
@@ -244,7 +244,7 @@ impl<C: Stored, K: Keep> Kept<C, K> {
             × (option_map (λ b. b.items) given.answer
             ≡ option_map message_text (C.take_step m at self.old.controller).sent))) }
         // Proved: Who sent a message is told as the message says.
-        // By `sender`; `Opened::take`: `sender`.
+        // By `sender`; `AnyKept::take`: `sender`.
         ensures sender { IfOk result (λ given. IsSentBy bytes.now given.sender) }
         ensures fresh { OnOk result (self.new.stale ≡ false) }
         ensures held { OnOk result (K.is_honest self.old.keep ≡ true →
@@ -267,7 +267,7 @@ impl<C: Stored, K: Keep> Kept<C, K> {
         }
         let message = decode(alloc, bytes)?;
         let sender = message.sender.copy(alloc)?;
-        let given = self.step(alloc, Cause::Message(message), at)?;
+        let given = self.step(alloc, StepInput::Message(message), at)?;
         Ok(TakenBytes {
             sender: Some(sender),
             reply: given.reply,

@@ -13,7 +13,7 @@ use worker_core::{Entry, Stage};
 
 /// What the record of a spawn has out, and to whom.
 fn sending_of(spawned: &SpawnRec) -> Option<(SpawnId, &Id)>
-    ensures { option_map out.seen result ≡ out.sending_of spawned.now }
+    ensures { option_map out.sending_seen result ≡ out.sending_of spawned.now }
 {
     if spawned.is_out() {
         Some((spawned.id, &spawned.worker))
@@ -24,7 +24,7 @@ fn sending_of(spawned: &SpawnRec) -> Option<(SpawnId, &Id)>
 
 /// What a worker's entry has out, which is for its master.
 fn returning_of<'a>(master: &'a Id, entry: &Entry) -> Option<(SpawnId, &'a Id)>
-    ensures { option_map out.seen result ≡ out.returning_of master.now entry.now }
+    ensures { option_map out.sending_seen result ≡ out.returning_of master.now entry.now }
 {
     match entry.phase {
         Stage::Done(_) => Some((entry.spawn_id, master)),
@@ -34,7 +34,7 @@ fn returning_of<'a>(master: &'a Id, entry: &Entry) -> Option<(SpawnId, &'a Id)>
 
 /// What records of spawns have out.
 fn sendings_of(alloc: Global, records: &[SpawnRec]) -> Result<Vec<(SpawnId, &Id)>, AllocError>
-    ensures { IfOk result (λ all. map out.seen all.items
+    ensures { IfOk result (λ all. map out.sending_seen all.items
         ≡ filter_map out.sending_of records.now) }
 {
     let mut all = Vec::with_capacity(alloc, records.len())?;
@@ -52,7 +52,7 @@ fn returnings_of<'a>(
     master: &'a Id,
     entries: &[Entry],
 ) -> Result<Vec<(SpawnId, &'a Id)>, AllocError>
-    ensures { IfOk result (λ all. map out.seen all.items
+    ensures { IfOk result (λ all. map out.sending_seen all.items
         ≡ filter_map (out.returning_of master.now) entries.now) }
 {
     let mut all = Vec::with_capacity(alloc, entries.len())?;
@@ -73,7 +73,7 @@ impl AnyController {
         // master the parts whose spawns are out, of a worker those whose work has ended and that
         // haven't come.
         ensures { IfOk result
-            (λ all. map out.seen all.items ≡ out.out_of self.now) }
+            (λ all. map out.sending_seen all.items ≡ out.out_of self.now) }
     {
         match self {
             AnyController::Master(master) => sendings_of(alloc, master.records()),

@@ -7,8 +7,8 @@ use controller::{Body, Reply};
 use ticket_tree::Refusal;
 
 /// Whether a step on an order leaves the controller as it was.
-pub(crate) fn rests(reply: &Result<Reply, Refusal>) -> bool
-    ensures { result ≡ resting.rests reply.now }
+pub(crate) fn is_idle(reply: &Result<Reply, Refusal>) -> bool
+    ensures { result ≡ resting.is_idle reply.now }
 {
     match reply {
         Ok(reply) => matches!(
@@ -28,8 +28,8 @@ pub(crate) fn is_abort(body: &Body) -> bool
 
 /// Whether a step on a message, by which a spawn is to be given up or not, leaves the controller as
 /// it was.
-pub(crate) fn rests_on(gives_up: bool, reply: &Result<Reply, Refusal>) -> bool
-    ensures { result ≡ (not gives_up && resting.rests reply.now) }
+pub(crate) fn is_idle_on(gives_up: bool, reply: &Result<Reply, Refusal>) -> bool
+    ensures { result ≡ (not gives_up && resting.is_idle reply.now) }
 {
-    !gives_up && rests(reply)
+    !gives_up && is_idle(reply)
 }

@@ -11,12 +11,12 @@ use std::marker::Model;
 /// A controller beside the text of its state, as that was saved last (our own). Where a keeper
 /// still holds the text, the controller need not be read from it again.
 #[derive(Drop)]
-pub struct Saved {
+pub struct SavedState {
     text: Vec<u8>,
     controller: AnyController,
 }
 
-impl Model for Saved {
+impl Model for SavedState {
     ghost use Rattle.stored_state.specs.Opened.{AnyController};
     ghost use Rattle.stored_state.specs.Saved.{IsTextOf};
 
@@ -27,17 +27,17 @@ impl Model for Saved {
     ghost invariant = { λ saved. IsTextOf saved.text.items saved.controller };
 }
 
-impl Saved {
+impl SavedState {
     /// That of a controller and the text of its state.
-    pub(crate) fn with_text(text: Vec<u8>, controller: AnyController) -> Saved
+    pub(crate) fn with_text(text: Vec<u8>, controller: AnyController) -> SavedState
         requires { IsTextOf text.items controller }
         ensures { result ≡ controller }
     {
-        Saved { text, controller }
+        SavedState { text, controller }
     }
 
     /// That of a controller, of whose state the text is made.
-    pub(crate) fn of(alloc: Global, controller: AnyController) -> Result<Saved, AllocError>
+    pub(crate) fn of(alloc: Global, controller: AnyController) -> Result<SavedState, AllocError>
         ensures { IfOk result (λ saved. saved ≡ controller) }
     {
         let text = match controller.state_text(alloc) {
@@ -47,7 +47,7 @@ impl Saved {
                 return Err(AllocError);
             }
         };
-        Ok(Saved { text, controller })
+        Ok(SavedState { text, controller })
     }
 
     /// The controller.
@@ -61,7 +61,7 @@ impl Saved {
     pub fn text(&self) -> &[u8]
         // Proved: A controller that is kept beside the text of its state is the one that is read
         // of that text.
-        // By `text`, `again`; `Saved::controller`, `Saved::len`.
+        // By `text`, `again`; `SavedState::controller`, `SavedState::len`.
         ensures text { result.now ≡ text_of self.now }
         ensures again { IsReadAs any_state_read result.now (Ok self.now) }
     {
@@ -79,7 +79,7 @@ impl Saved {
     pub(crate) fn into_controller(self) -> AnyController
         ensures { result ≡ self }
     {
-        let Saved { text, controller } = self;
+        let SavedState { text, controller } = self;
         drop(text);
         controller
     }

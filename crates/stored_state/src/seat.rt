@@ -1,13 +1,13 @@
 ghost use Rattle.std.specs.Prelude.{◌≡◌, Bool, true, is_some, Ok, IfOk, IfSome, OnErr, OnOk};
 ghost use Rattle.std.specs.Option.{option_map};
 ghost use Rattle.jmf_message.specs.Decoded.{IsDecodedAs};
-ghost use Rattle.stored_state.specs.Cause.{caused};
+ghost use Rattle.stored_state.specs.Cause.{step_on};
 ghost use Rattle.stored_state.specs.Message.{message_text};
 ghost use Rattle.stored_state.specs.Seat.{IsOldOrNext};
 
-use crate::cause::Cause;
+use crate::cause::StepInput;
 use crate::order_bytes::OrderBytes;
-use crate::stored::Stored;
+use crate::stored::StoredController;
 use controller::Reply;
 use std::alloc::Global;
 use streams::Refused;
@@ -16,7 +16,7 @@ use ticket_tree::{Id, Refusal};
 /// A controller beside what it is started again from (our own). A step is made and held before
 /// anything of it is given out. Of one that is refused it may be open whether it is held, until the
 /// controller is started again: it is as if it had stopped in the step.
-pub trait Seat<C: Stored>: Drop {
+pub trait Seat<C: StoredController>: Drop {
     /// The controller that it is started again as.
     ghost kept: { Self → C };
 
@@ -41,7 +41,7 @@ pub trait Seat<C: Stored>: Drop {
     fn step(
         &mut self,
         alloc: Global,
-        cause: Cause<C::Order>,
+        cause: StepInput<C::Order>,
         at: u64,
     ) -> Result<OrderBytes, Refused>
         // Proved: A seat is a controller beside what it is started again from: its step is made
@@ -52,18 +52,18 @@ pub trait Seat<C: Stored>: Drop {
         // `fresh`, `err`, `sure`; `Seat::restart`: `state`, `fresh`; `Seat::name`;
         // `Seat::controller`: `kept`, `fresh`.
         ensures reply { IfOk result (λ given. given.reply
-            ≡ (caused C.order_step C.take_step cause at (kept self.old)).reply) }
+            ≡ (step_on C.order_step C.take_step cause at (kept self.old)).reply) }
         ensures message { IfOk result (λ given. option_map (λ b. b.items) given.message
             ≡ option_map message_text
-            (caused C.order_step C.take_step cause at (kept self.old)).sent) }
+            (step_on C.order_step C.take_step cause at (kept self.old)).sent) }
         ensures read { OnOk result (IfSome
-            (caused C.order_step C.take_step cause at (kept self.old)).sent
+            (step_on C.order_step C.take_step cause at (kept self.old)).sent
             (λ m. IsDecodedAs (message_text m) (Ok m))) }
         ensures state { OnOk result (kept self.new
-            ≡ (caused C.order_step C.take_step cause at (kept self.old)).next) }
+            ≡ (step_on C.order_step C.take_step cause at (kept self.old)).next) }
         ensures fresh { OnOk result (is_fresh self.new ≡ true) }
         ensures err { OnErr result (IsOldOrNext (kept self.old)
-            (caused C.order_step C.take_step cause at (kept self.old)) (kept self.new)) }
+            (step_on C.order_step C.take_step cause at (kept self.old)) (kept self.new)) }
         ensures sure { OnErr result (is_sure ≡ true → kept self.new ≡ kept self.old) };
 
     /// Its step, which is held, and of which no message is given out: the controller stops, and is
@@ -71,16 +71,16 @@ pub trait Seat<C: Stored>: Drop {
     fn stop(
         &mut self,
         alloc: Global,
-        cause: Cause<C::Order>,
+        cause: StepInput<C::Order>,
         at: u64,
     ) -> Result<Result<Reply, Refusal>, Refused>
         ensures reply { IfOk result (λ reply. reply
-            ≡ (caused C.order_step C.take_step cause at (kept self.old)).reply) }
+            ≡ (step_on C.order_step C.take_step cause at (kept self.old)).reply) }
         ensures state { OnOk result (kept self.new
-            ≡ (caused C.order_step C.take_step cause at (kept self.old)).next) }
+            ≡ (step_on C.order_step C.take_step cause at (kept self.old)).next) }
         ensures fresh { OnOk result (is_fresh self.new ≡ true) }
         ensures err { OnErr result (IsOldOrNext (kept self.old)
-            (caused C.order_step C.take_step cause at (kept self.old)) (kept self.new)) }
+            (step_on C.order_step C.take_step cause at (kept self.old)) (kept self.new)) }
         ensures sure { OnErr result (is_sure ≡ true → kept self.new ≡ kept self.old) };
 
     /// The controller stops, and is started again.

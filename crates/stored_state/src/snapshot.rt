@@ -6,7 +6,7 @@ ghost use Rattle.stored_state.specs.Held.{HoldsSame, IsNotLoaded};
 ghost use Rattle.stored_state.specs.Opened.{any_state_read, controller_in, is_stale_in, keep_in};
 
 use crate::any_controller::{AnyController, controller_of};
-use crate::opened::Opened;
+use crate::any_kept::AnyKept;
 use crate::storing::load_bytes;
 use keepers::Keep;
 use std::alloc::Global;
@@ -90,7 +90,7 @@ impl Snapshot {
     /// The controller whose state a keeper holds now, beside the keeper, which holds it on: as
     /// `open_any`, but that a text that is the same still isn't read once more. Refuses as that
     /// does.
-    pub fn open<K: Keep>(self, alloc: Global, mut keep: K) -> Result<Opened<K>, Refused>
+    pub fn open<K: Keep>(self, alloc: Global, mut keep: K) -> Result<AnyKept<K>, Refused>
         // Proved: With what a keeper held at a moment it is opened as by `open_any`.
         // By `controller`, `held`, `honest`, `fresh`, `refused`, `failures`;
         // `Snapshot::controller`.

@@ -3,14 +3,14 @@ ghost use Rattle.std.specs.Option.{option_map};
 ghost use Rattle.serde_json.specs.Written.{compact_text};
 ghost use Rattle.json_profile.specs.ReadAs.{IsReadAs};
 ghost use Rattle.controller.specs.Words.{may_be_sent};
-ghost use Rattle.stored_state.specs.Cause.{caused};
+ghost use Rattle.stored_state.specs.Cause.{step_on};
 ghost use Rattle.jmf_message.specs.Decoded.{IsDecodedAs};
 ghost use Rattle.stored_state.specs.Message.{message_text as text_sent};
 
-use crate::cause::{Cause, make};
+use crate::cause::{StepInput, make};
 use crate::order_bytes::OrderBytes;
 use crate::seat::Seat;
-use crate::stored::Stored;
+use crate::stored::StoredController;
 use crate::storing::{controllers_of, message_text};
 use controller::{Outcome, Reply};
 use std::alloc::{AllocError, Global};
@@ -23,13 +23,13 @@ use ticket_tree::{Duplicate, Id, Refusal};
 /// may stand a second value of it, on which its next step is made, so that what is shown stays
 /// until all is done that may fail.
 #[derive(Drop)]
-pub struct Station<C: Stored> {
+pub struct Station<C: StoredController> {
     controller: C,
     text: Vec<u8>,
-    spare: Option<C>,
+    twin: Option<C>,
 }
 
-impl<C: Stored> Model for Station<C> {
+impl<C: StoredController> Model for Station<C> {
     ghost use Rattle.stored_state.specs.Station.{IsStation};
 
     ghost Value = { C };
@@ -37,28 +37,28 @@ impl<C: Stored> Model for Station<C> {
     ghost view = { λ station. station.controller };
 
     ghost invariant = { λ station. IsStation C.state_data C.state_read
-        station.controller station.text.items station.spare };
+        station.controller station.text.items station.twin };
 }
 
-impl<C: Stored> Station<C> {
+impl<C: StoredController> Station<C> {
     /// That of a controller, which is started from the text of its state.
     pub fn new(alloc: Global, controller: C) -> Result<Station<C>, AllocError>
         ensures { IfOk result (λ station. station ≡ controller) }
     {
-        let mut station = Station::alone(alloc, controller)?;
+        let mut station = Station::without_twin(alloc, controller)?;
         station.start_again(alloc)?;
         Ok(station)
     }
 
     /// A controller beside the text of its state alone.
-    pub(crate) fn alone(alloc: Global, controller: C) -> Result<Station<C>, AllocError>
+    pub(crate) fn without_twin(alloc: Global, controller: C) -> Result<Station<C>, AllocError>
         ensures { IfOk result (λ station. station ≡ controller) }
     {
         let text = controller.state_text(alloc)?;
         Ok(Station {
             controller,
             text,
-            spare: None,
+            twin: None,
         })
     }
 
@@ -91,26 +91,26 @@ impl<C: Stored> Station<C> {
     fn start_again(&mut self, alloc: Global) -> Result<(), AllocError>
         ensures { self.new ≡ self.old }
     {
-        let (controller, spare) = self.read(alloc)?;
+        let (controller, twin) = self.read(alloc)?;
         self.controller = controller;
-        self.spare = Some(spare);
+        self.twin = Some(twin);
         Ok(())
     }
 
     /// The second value of the controller. Where there is none it is started again.
-    fn second(&mut self, alloc: Global) -> Result<C, AllocError>
+    fn take_twin(&mut self, alloc: Global) -> Result<C, AllocError>
         ensures same { IfOk result (λ controller. controller ≡ self.old) }
         ensures state { self.new ≡ self.old }
     {
-        if self.spare.is_none() {
+        if self.twin.is_none() {
             self.start_again(alloc)?;
         }
-        self.spare.take().ok_or(AllocError)
+        self.twin.take().ok_or(AllocError)
     }
 
     /// What is given out of a step by which the second value came to the next, and what it leads
     /// to: to none where it says that it leaves the controller as it was.
-    fn made(
+    fn finish_step(
         &mut self,
         alloc: Global,
         next: C,
@@ -132,10 +132,10 @@ impl<C: Stored> Station<C> {
         drop(answer);
         let message = text?;
         if is_same {
-            self.spare = Some(next);
+            self.twin = Some(next);
             return Ok((None, OrderBytes { reply, message }));
         }
-        let next = Station::alone(alloc, next)?;
+        let next = Station::without_twin(alloc, next)?;
         Ok((Some(next), OrderBytes { reply, message }))
     }
 
@@ -144,23 +144,23 @@ impl<C: Stored> Station<C> {
     fn step_made(
         &mut self,
         alloc: Global,
-        cause: Cause<C::Order>,
+        cause: StepInput<C::Order>,
         at: u64,
     ) -> Result<(Option<Station<C>>, OrderBytes), AllocError>
         ensures next { IfOk result (λ made. unwrap_or made.0 self.old
-            ≡ (caused C.order_step C.take_step cause at self.old).next) }
+            ≡ (step_on C.order_step C.take_step cause at self.old).next) }
         ensures reply { IfOk result (λ made. made.1.reply
-            ≡ (caused C.order_step C.take_step cause at self.old).reply) }
+            ≡ (step_on C.order_step C.take_step cause at self.old).reply) }
         ensures message { IfOk result (λ made. option_map (λ b. b.items) made.1.message
-            ≡ option_map text_sent (caused C.order_step C.take_step cause at self.old).sent) }
+            ≡ option_map text_sent (step_on C.order_step C.take_step cause at self.old).sent) }
         ensures read { OnOk result (IfSome
-            (caused C.order_step C.take_step cause at self.old).sent
+            (step_on C.order_step C.take_step cause at self.old).sent
             (λ m. IsDecodedAs (text_sent m) (Ok m))) }
         ensures state { self.new ≡ self.old }
     {
-        let mut next = self.second(alloc)?;
+        let mut next = self.take_twin(alloc)?;
         let (outcome, is_same) = make(alloc, &mut next, cause, at)?;
-        self.made(alloc, next, outcome, is_same)
+        self.finish_step(alloc, next, outcome, is_same)
     }
 
     /// Stores what a step led to, stops, and is started again from the text of that. Where memory
@@ -187,18 +187,24 @@ impl<C: Stored> Station<C> {
         let Station {
             controller,
             text,
-            spare,
+            twin,
         } = mem::replace(self, next);
         drop(text);
-        drop(spare);
+        drop(twin);
         controller
     }
 
     /// Stores what a step led to. The controller that it was makes the same step, and is the second
     /// value then; where memory runs out there is none.
-    fn store(&mut self, alloc: Global, next: Option<Station<C>>, cause: Cause<C::Order>, at: u64)
+    fn store(
+        &mut self,
+        alloc: Global,
+        next: Option<Station<C>>,
+        cause: StepInput<C::Order>,
+        at: u64,
+    )
         // Wants: the state that the step leads to.
-        requires { (caused C.order_step C.take_step cause at self.old).next
+        requires { (step_on C.order_step C.take_step cause at self.old).next
             ≡ unwrap_or next self.old }
         ensures { self.new ≡ unwrap_or next self.old }
     {
@@ -210,14 +216,14 @@ impl<C: Stored> Station<C> {
         match make(alloc, &mut second, cause, at) {
             Ok((outcome, _)) => {
                 drop(outcome);
-                self.spare = Some(second);
+                self.twin = Some(second);
             }
             Err(_) => drop(second),
         }
     }
 }
 
-impl<C: Stored> Seat<C> for Station<C>
+impl<C: StoredController> Seat<C> for Station<C>
 where
     C::Order: Duplicate,
 {
@@ -242,7 +248,7 @@ where
     fn step(
         &mut self,
         alloc: Global,
-        cause: Cause<C::Order>,
+        cause: StepInput<C::Order>,
         at: u64,
     ) -> Result<OrderBytes, Refused>
         // Proved: A controller beside the text of its state is a seat, at which a step that is
@@ -250,14 +256,14 @@ where
         // By `reply`, `message`, `read`, `state`, `err`; `Station::stop`: `reply`, `state`, `err`;
         // `Station::text`: `text`, `again`; `Station::new`, `Station::controller`.
         ensures reply { IfOk result (λ given. given.reply
-            ≡ (caused C.order_step C.take_step cause at self.old).reply) }
+            ≡ (step_on C.order_step C.take_step cause at self.old).reply) }
         ensures message { IfOk result (λ given. option_map (λ b. b.items) given.message
-            ≡ option_map text_sent (caused C.order_step C.take_step cause at self.old).sent) }
+            ≡ option_map text_sent (step_on C.order_step C.take_step cause at self.old).sent) }
         ensures read { OnOk result (IfSome
-            (caused C.order_step C.take_step cause at self.old).sent
+            (step_on C.order_step C.take_step cause at self.old).sent
             (λ m. IsDecodedAs (text_sent m) (Ok m))) }
         ensures state { OnOk result (self.new
-            ≡ (caused C.order_step C.take_step cause at self.old).next) }
+            ≡ (step_on C.order_step C.take_step cause at self.old).next) }
         ensures err { OnErr result (self.new ≡ self.old) }
     {
         let again = cause.copy(alloc)?;
@@ -269,13 +275,13 @@ where
     fn stop(
         &mut self,
         alloc: Global,
-        cause: Cause<C::Order>,
+        cause: StepInput<C::Order>,
         at: u64,
     ) -> Result<Result<Reply, Refusal>, Refused>
         ensures reply { IfOk result (λ reply. reply
-            ≡ (caused C.order_step C.take_step cause at self.old).reply) }
+            ≡ (step_on C.order_step C.take_step cause at self.old).reply) }
         ensures state { OnOk result (self.new
-            ≡ (caused C.order_step C.take_step cause at self.old).next) }
+            ≡ (step_on C.order_step C.take_step cause at self.old).next) }
         ensures err { OnErr result (self.new ≡ self.old) }
     {
         let (next, given) = self.step_made(alloc, cause, at)?;

@@ -13,7 +13,7 @@ ghost use Rattle.stored_state.specs.Held.{IsReadAs, IsRefusalOf};
 ghost use Rattle.stored_state.specs.Message.{message_text as text_sent};
 ghost use Rattle.streams.specs.declared.refused.Refused.TheVariants.{LoadFailed};
 
-use crate::stored::Stored;
+use crate::stored::StoredController;
 use controller::Message;
 use jmf_message::encode;
 use json_source::{Scratch, tree_of};
@@ -44,7 +44,7 @@ pub(crate) fn message_text(
 }
 
 /// Saves a controller's state, once the text of the message that goes out is made too.
-pub(crate) fn save_step<C: Stored, K: Keep>(
+pub(crate) fn save_step<C: StoredController, K: Keep>(
     alloc: Global,
     controller: &C,
     keep: &mut K,
@@ -108,7 +108,10 @@ pub(crate) fn load_bytes<K: Keep>(keep: &mut K) -> Result<Vec<u8>, Refused>
 
 /// The controller whose state bytes are the text of, twice. Refuses what they are refused for, and
 /// `Memory`.
-pub(crate) fn controllers_of<C: Stored>(alloc: Global, bytes: &[u8]) -> Result<(C, C), Refusal>
+pub(crate) fn controllers_of<C: StoredController>(
+    alloc: Global,
+    bytes: &[u8],
+) -> Result<(C, C), Refusal>
     ensures first { IfOk result (λ c. IsReadAs C.state_read bytes.now (Ok c.0)) }
     ensures second { IfOk result (λ c. IsReadAs C.state_read bytes.now (Ok c.1)) }
     ensures refused { IfErr result (IsRefusalOf C.state_read bytes.now) }
@@ -119,7 +122,7 @@ pub(crate) fn controllers_of<C: Stored>(alloc: Global, bytes: &[u8]) -> Result<(
 }
 
 /// The controller whose state a keeper holds.
-pub(crate) fn load<C: Stored, K: Keep>(alloc: Global, keep: &mut K) -> Result<C, Refused>
+pub(crate) fn load<C: StoredController, K: Keep>(alloc: Global, keep: &mut K) -> Result<C, Refused>
     ensures ok { IfOk result (λ c. K.is_honest keep.old ≡ true →
         IsReadAs C.state_read (K.held keep.old) (Ok c)) }
     ensures held { HoldsSame K.is_honest K.held keep.old keep.new }

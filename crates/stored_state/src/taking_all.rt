@@ -12,7 +12,7 @@ ghost use Rattle.master_core.specs.Orders as orders;
 ghost use Rattle.worker_core.specs.Orders as worker_orders;
 ghost use Rattle.stored_state.specs.Addressee.{is_addressed};
 ghost use Rattle.stored_state.specs.AnyStep.{text_of};
-ghost use Rattle.stored_state.specs.Cause.{caused};
+ghost use Rattle.stored_state.specs.Cause.{step_on};
 ghost use Rattle.stored_state.specs.Message.{message_text as text_sent};
 ghost use Rattle.stored_state.specs.Opened.{any_state_read};
 ghost use Rattle.stored_state.specs.TakingAll.{Gives, GivesOne, IsNotTakenFrom, Makes, OrdersOne};
@@ -20,11 +20,11 @@ ghost use Rattle.stored_state.specs.TakingAll.{TakesAll, TakesFrom, TakesNone};
 
 use crate::addressee::Addressee;
 use crate::any_controller::{AnyController, controller_of};
-use crate::cause::{Cause, make};
+use crate::cause::{StepInput, make};
 use crate::coming::Coming;
 use crate::orders::{master_order, worker_order};
-use crate::saved::Saved;
-use crate::stored::Stored;
+use crate::saved::SavedState;
+use crate::stored::StoredController;
 use crate::storing::{load_bytes, message_text, save};
 use crate::taken_bytes::TakenBytes;
 use controller::{Message, Outcome};
@@ -56,15 +56,15 @@ fn bytes_of(alloc: Global, sender: Option<Id>, outcome: Outcome) -> Result<Taken
 /// What a step of a controller gives out, or that memory ran out for it, and whether the controller
 /// stays as it was. At an `Err`, where memory runs out for the text that goes out, the controller is
 /// the one behind the step.
-fn make_step<C: Stored>(
+fn make_step<C: StoredController>(
     alloc: Global,
     controller: &mut C,
     sender: Option<Id>,
-    cause: Cause<C::Order>,
+    cause: StepInput<C::Order>,
     at: u64,
 ) -> Result<(Result<TakenBytes, Refusal>, bool), AllocError>
     ensures makes { IfOk result (λ made. Makes
-        (caused C.order_step C.take_step cause at controller.old) sender controller.old made.0
+        (step_on C.order_step C.take_step cause at controller.old) sender controller.old made.0
         controller.new) }
     ensures same { IfOk result (λ made. made.1 ≡ true → controller.new ≡ controller.old) }
 {
@@ -100,10 +100,10 @@ fn take_message(
     };
     match controller {
         AnyController::Master(master) => {
-            make_step(alloc, master, sender, Cause::Message(message), at)
+            make_step(alloc, master, sender, StepInput::Message(message), at)
         }
         AnyController::Worker(worker) => {
-            make_step(alloc, worker, sender, Cause::Message(message), at)
+            make_step(alloc, worker, sender, StepInput::Message(message), at)
         }
     }
 }
@@ -121,7 +121,7 @@ fn order_master(
     ensures same { IfOk result (λ given. given.1 ≡ true → master.new ≡ master.old) }
 {
     match master_order(alloc, text) {
-        Ok(order) => make_step(alloc, master, None, Cause::Order(order), at),
+        Ok(order) => make_step(alloc, master, None, StepInput::Order(order), at),
         Err(refusal) => Ok((Err(refusal), true)),
     }
 }
@@ -138,7 +138,7 @@ fn order_worker(
     ensures same { IfOk result (λ given. given.1 ≡ true → worker.new ≡ worker.old) }
 {
     match worker_order(alloc, text) {
-        Ok(order) => make_step(alloc, worker, None, Cause::Order(order), at),
+        Ok(order) => make_step(alloc, worker, None, StepInput::Order(order), at),
         Err(refusal) => Ok((Err(refusal), true)),
     }
 }
@@ -205,7 +205,7 @@ fn take_each(
 /// last: then they aren't read again. Refuses as `controller_of` does.
 fn controller_behind(
     alloc: Global,
-    last: Option<Saved>,
+    last: Option<SavedState>,
     bytes: &[u8],
 ) -> Result<(AnyController, bool), Refusal>
     ensures ok { IfOk result (λ found. IsReadAs any_state_read bytes.now (Ok found.0)) }
@@ -226,9 +226,9 @@ fn controller_behind(
 
 /// The same, where it is one that is addressed. Refuses as `controller_of` does, and else
 /// `OtherName`.
-fn addressed_behind(
+fn addressed_controller(
     alloc: Global,
-    last: Option<Saved>,
+    last: Option<SavedState>,
     bytes: &[u8],
     to: Addressee<'_>,
 ) -> Result<(AnyController, bool), Refused>
@@ -258,16 +258,16 @@ fn are_none(given: &[Result<TakenBytes, Refusal>]) -> bool
 
 /// What each of these gives out, one after the other, where bytes are the text of the controller's
 /// state; the controller as it is then, beside the text of its state, unless no step was made at
-/// all; and whether that is these bytes, which were saved last. Refuses as `addressed_behind` does,
+/// all; and whether that is these bytes, which were saved last. Refuses as `addressed_controller` does,
 /// and `Memory`.
-fn taken_from(
+fn take_from(
     alloc: Global,
     bytes: Vec<u8>,
-    last: Option<Saved>,
+    last: Option<SavedState>,
     to: Addressee<'_>,
     all: Vec<Coming>,
     at: u64,
-) -> Result<(Vec<Result<TakenBytes, Refusal>>, Option<Saved>, bool), Refused>
+) -> Result<(Vec<Result<TakenBytes, Refusal>>, Option<SavedState>, bool), Refused>
     ensures ok { IfOk result
         (λ taken. TakesFrom to.entry at bytes.items all.items taken.0.items taken.1) }
     ensures each { IfOk result (λ taken. length taken.0.items ≡ length all.items) }
@@ -275,7 +275,7 @@ fn taken_from(
         IfSome taken.1 (λ c. bytes.items ≡ text_of c)) }
     ensures refused { IfErr result (IsNotTakenFrom to.entry bytes.items) }
 {
-    let (mut controller, is_saved) = addressed_behind(alloc, last, bytes.as_slice(), to)?;
+    let (mut controller, is_saved) = addressed_controller(alloc, last, bytes.as_slice(), to)?;
     let (given, is_same) = match take_each(alloc, &mut controller, all, at) {
         Ok(taken) => taken,
         Err(AllocError) => {
@@ -284,14 +284,14 @@ fn taken_from(
         }
     };
     if is_saved && is_same {
-        return Ok((given, Some(Saved::with_text(bytes, controller)), true));
+        return Ok((given, Some(SavedState::with_text(bytes, controller)), true));
     }
     drop(bytes);
     if is_same && are_none(given.as_slice()) {
         drop(controller);
         return Ok((given, None, true));
     }
-    match Saved::of(alloc, controller) {
+    match SavedState::of(alloc, controller) {
         Ok(saved) => Ok((given, Some(saved), false)),
         Err(AllocError) => Err(Refused::Core(Refusal::Memory)),
     }
@@ -309,11 +309,11 @@ fn taken_from(
 pub fn take_all<K: Keep>(
     alloc: Global,
     keep: &mut K,
-    last: Option<Saved>,
+    last: Option<SavedState>,
     to: Addressee<'_>,
     all: Vec<Coming>,
     at: u64,
-) -> Result<(Vec<Result<TakenBytes, Refusal>>, Option<Saved>), Refused>
+) -> Result<(Vec<Result<TakenBytes, Refusal>>, Option<SavedState>), Refused>
     // Proved: All that comes to a controller with one save, messages and orders, comes to it one
     // after the other, each to the controller that the one before left, with a save behind the
     // last; of each its own is given out, in turn, and who sent it. Where the controller isn't one
@@ -340,7 +340,7 @@ pub fn take_all<K: Keep>(
             return Err(refused);
         }
     };
-    let (given, next, is_held) = match taken_from(alloc, bytes, last, to, all, at) {
+    let (given, next, is_held) = match take_from(alloc, bytes, last, to, all, at) {
         Ok(taken) => taken,
         Err(refused) => return Err(refused),
     };

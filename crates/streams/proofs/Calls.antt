@@ -6,12 +6,12 @@ use Rattle.std.proofs.lemmas.Bool.Decides.{eqb_tells}
 use Rattle.std.specs.IoError.{error_kind}
 use Rattle.std.specs.declared.io.Error.{Error}
 use Rattle.streams.specs.Counts.{Counts, IsFull, CountsError, CountsFailure, is_interruption}
-use Rattle.streams.specs.Streams.{HasFailed, used}
+use Rattle.streams.specs.Streams.{HasFailed, traffic}
 
 -- a call that failed is counted, unless none is counted any more
 pub call_failed : {T : Type 0} (known : T → Option (List ℕ)) (start old new : Counts T)
     → old.failures ≡ start.failures → (IsFull old → new ≡ old)
-    → (¬ IsFull old → CountsFailure old new) → HasFailed (used known start new)
+    → (¬ IsFull old → CountsFailure old new) → HasFailed (traffic known start new)
 call_failed known start old new same full called =
     ⊎_elim
     (λ is. inr (ap (λ c. c.calls) (full is.1) ∙ is.1))

@@ -12,7 +12,7 @@ pub record Stream : Type 0 where
   pub interruptions : ℕ
 
 -- a stream before and after a run
-pub record Use : Type 0 where
+pub record Traffic : Type 0 where
   pub before : Stream
   pub after : Stream
 
@@ -25,44 +25,44 @@ stream known c =
       interruptions = c.interruptions;
     }
 
-abbrev pub used : {T : Type 0} → (T → Option (List ℕ)) → Counts T → Counts T → Use
-used known old new = record { before = stream known old; after = stream known new }
+abbrev pub traffic : {T : Type 0} → (T → Option (List ℕ)) → Counts T → Counts T → Traffic
+traffic known old new = record { before = stream known old; after = stream known new }
 
-abbrev pub IsUntouched : Use → Type 0
+abbrev pub IsUntouched : Traffic → Type 0
 IsUntouched u = u.after ≡ u.before
 
 -- a call failed, or none is passed on any more
-abbrev pub HasFailed : Use → Type 0
+abbrev pub HasFailed : Traffic → Type 0
 HasFailed u = (u.before.failures < u.after.failures) ⊎ (u.after.calls ≡ 2 ^ 64 - 1)
 
 -- ---- reading
 
 -- these bytes were read: no read failed, and no more were interrupted than are made again
-pub record Reads (u : Use) (bytes : List ℕ) : Type 0 where
+pub record Reads (u : Traffic) (bytes : List ℕ) : Type 0 where
   pub taken : Consumes u.before.bytes u.after.bytes bytes
   pub unfailed : u.after.failures ≡ u.before.failures
   pub again : u.after.interruptions ≤ u.before.interruptions + MAX_INTERRUPTIONS
 
 -- these bytes are the input: all that there were, and no more than are read
-pub record IsInput (u : Use) (bytes : List ℕ) : Type 0 where
+pub record IsInput (u : Traffic) (bytes : List ℕ) : Type 0 where
   pub reads : Reads u bytes
   pub all : IsAtEnd u.after.bytes
   pub small : length bytes ≤ MAX_INPUT_BYTES
 
 -- a read failed, or one more was interrupted than are made again
-abbrev pub HasFailedReading : Use → Type 0
+abbrev pub HasFailedReading : Traffic → Type 0
 HasFailedReading u =
     HasFailed u ⊎ (u.after.interruptions ≡ u.before.interruptions + MAX_INTERRUPTIONS + 1)
 
 -- ---- writing
 
 -- these bytes were written, and no write failed
-pub record Writes (u : Use) (bytes : List ℕ) : Type 0 where
+pub record Writes (u : Traffic) (bytes : List ℕ) : Type 0 where
   pub given : Appends u.before.bytes u.after.bytes bytes
   pub unfailed : u.after.failures ≡ u.before.failures
 
 -- a write failed, and before it a front of these bytes was written
-pub record WritesFront (u : Use) (bytes : List ℕ) : Type 0 where
+pub record WritesFront (u : Traffic) (bytes : List ℕ) : Type 0 where
   pub count : ℕ
   pub short : count < length bytes
   pub given : Appends u.before.bytes u.after.bytes (take count bytes)

@@ -4,7 +4,7 @@ ghost use Rattle.std.specs.Prelude.{◌≡◌, ℕ, Bool, List, IfOk, IfErr};
 ghost use Rattle.ticket_items.specs.declared.refusal.Refusal.{Refusal as RefusalSeen};
 ghost use Rattle.streams.specs.Ends.{Ends, GivesOut, GivesUp, IsFaultOf, IsOutputOf, Tells};
 ghost use Rattle.streams.specs.Fault.{fault_status};
-ghost use Rattle.streams.specs.Streams.{used};
+ghost use Rattle.streams.specs.Streams.{traffic};
 
 use crate::counted::Counted;
 use crate::fault::Fault;
@@ -39,7 +39,7 @@ pub trait Command {
 
 /// Tells a fault, as far as `faults` takes it. Answers the fault's exit status.
 fn give_up<F: Write>(fault: Fault, faults: &mut Counted<F>) -> u8
-    ensures told { Tells fault (used F.contents faults.old faults.new) }
+    ensures errors { Tells fault (traffic F.contents faults.old faults.new) }
     ensures status { result ≡ fault_status fault }
 {
     tell(faults, &fault);
@@ -53,8 +53,8 @@ fn give_out<W: Write, F: Write>(
     writer: &mut Counted<W>,
     faults: &mut Counted<F>,
 ) -> u8
-    ensures { GivesOut output.text.items output.refused (used W.contents writer.old writer.new)
-        (used F.contents faults.old faults.new) result }
+    ensures { GivesOut output.text.items output.refused (traffic W.contents writer.old writer.new)
+        (traffic F.contents faults.old faults.new) result }
 {
     match write_bytes(writer, output.text.as_slice()) {
         Ok(()) => u8::from(output.refused),
@@ -71,9 +71,11 @@ pub fn finish<W: Write, F: Write>(
     faults: &mut Counted<F>,
 ) -> u8
     ensures done { IfOk made (λ output. GivesOut output.text.items output.refused
-        (used W.contents writer.old writer.new) (used F.contents faults.old faults.new) result) }
+        (traffic W.contents writer.old writer.new)
+        (traffic F.contents faults.old faults.new) result) }
     ensures gives_up { IfErr made (λ fault. GivesUp fault
-        (used W.contents writer.old writer.new) (used F.contents faults.old faults.new) result) }
+        (traffic W.contents writer.old writer.new)
+        (traffic F.contents faults.old faults.new) result) }
 {
     match made {
         Ok(output) => give_out(output, writer, faults),
@@ -90,10 +92,11 @@ pub fn output_of<C: Command, R: Read>(
 ) -> Result<Output, Fault>
     // Proved: A command's output is made of the whole input, and either written or given up.
     // By `done`, `refused`; `finish`: `done`, `gives_up`; `Command::output`: `done`, `refused`.
-    ensures done { IfOk result (λ o. IsOutputOf C.is_output (used R.remaining reader.old reader.new)
+    ensures done { IfOk result (λ o. IsOutputOf C.is_output
+        (traffic R.remaining reader.old reader.new)
         o.text.items o.refused) }
     ensures refused { IfErr result
-        (IsFaultOf C.is_refusal (used R.remaining reader.old reader.new)) }
+        (IsFaultOf C.is_refusal (traffic R.remaining reader.old reader.new)) }
 {
     let input = read_input(alloc, reader)?;
     Ok(C::output(alloc, input)?)
@@ -114,8 +117,9 @@ pub fn run_command<C: Command, R: Read, W: Write, F: Write>(
     // something was refused, else 0; or one fault was told, as far as that could be written, and
     // the status is the fault's: then nothing was written, or where a write failed a front of the
     // output.
-    ensures { Ends C.is_output C.is_refusal (used R.remaining reader.old reader.new)
-        (used W.contents writer.old writer.new) (used F.contents faults.old faults.new) result }
+    ensures { Ends C.is_output C.is_refusal (traffic R.remaining reader.old reader.new)
+        (traffic W.contents writer.old writer.new)
+        (traffic F.contents faults.old faults.new) result }
 {
     finish(output_of::<C, R>(alloc, reader), writer, faults)
 }

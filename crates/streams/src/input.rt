@@ -1,7 +1,7 @@
 //! Reading the input.
 
 ghost use Rattle.std.specs.Prelude.{◌≡◌, IfOk, IfErr, vec_len};
-ghost use Rattle.streams.specs.Streams.{used, IsInput};
+ghost use Rattle.streams.specs.Streams.{IsInput, traffic};
 ghost use Rattle.streams.specs.Ends.{IsUnread};
 
 use crate::counted::{Counted, is_interruption};
@@ -32,8 +32,8 @@ fn zeros(alloc: Global, size: usize) -> Result<Vec<u8>, AllocError>
 pub fn read_input<R: Read>(alloc: Global, reader: &mut Counted<R>) -> Result<Vec<u8>, Fault>
     // Proved: Input is read whole within its limits.
     // By `ok`, `err`.
-    ensures ok { IfOk result (λ v. IsInput (used R.remaining reader.old reader.new) v.items) }
-    ensures err { IfErr result (IsUnread (used R.remaining reader.old reader.new)) }
+    ensures ok { IfOk result (λ v. IsInput (traffic R.remaining reader.old reader.new) v.items) }
+    ensures err { IfErr result (IsUnread (traffic R.remaining reader.old reader.new)) }
 {
     let mut buffer = zeros(alloc, READ_SIZE)?;
     let mut input = Vec::new(alloc);

@@ -2,7 +2,7 @@
 
 ghost use Rattle.std.specs.Prelude.{◌≡◌, OnOk, OnErr, IfErr};
 ghost use Rattle.streams.specs.declared.refused.Refused.TheVariants.{WriteFailed};
-ghost use Rattle.streams.specs.Streams.{used, Writes, WritesFront};
+ghost use Rattle.streams.specs.Streams.{Writes, WritesFront, traffic};
 ghost use Rattle.streams.specs.declared.fault.Fault.TheVariants.{Device};
 
 use crate::counted::Counted;
@@ -15,8 +15,9 @@ use std::io::Write;
 pub fn write_bytes<W: Write>(writer: &mut Counted<W>, bytes: &[u8]) -> Result<(), Fault>
     // Proved: Output is written whole, or a front of it where a write failed.
     // By `ok`, `front`, `fault`; `tell`.
-    ensures ok { OnOk result (Writes (used W.contents writer.old writer.new) bytes.now) }
-    ensures front { OnErr result (WritesFront (used W.contents writer.old writer.new) bytes.now) }
+    ensures ok { OnOk result (Writes (traffic W.contents writer.old writer.new) bytes.now) }
+    ensures front { OnErr result (WritesFront
+        (traffic W.contents writer.old writer.new) bytes.now) }
     ensures fault { IfErr result (λ f. f ≡ Device WriteFailed) }
 {
     let mut done = 0;

@@ -1,7 +1,7 @@
 //! Telling why the command gave up.
 
 ghost use Rattle.streams.specs.Ends.{Tells};
-ghost use Rattle.streams.specs.Streams.{used};
+ghost use Rattle.streams.specs.Streams.{traffic};
 
 use crate::counted::Counted;
 use crate::fault::Fault;
@@ -10,7 +10,7 @@ use std::io::Write;
 
 /// Writes the line of the fault. That a write fails is ignored, and then a front of it was written.
 pub fn tell<F: Write>(faults: &mut Counted<F>, fault: &Fault)
-    ensures { Tells fault.now (used F.contents faults.old faults.new) }
+    ensures { Tells fault.now (traffic F.contents faults.old faults.new) }
 {
     let _ = write_bytes(faults, fault.line().as_bytes());
 }

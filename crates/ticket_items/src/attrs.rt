@@ -1,4 +1,4 @@
-use crate::attrs_iter::{AttrsIter, Left};
+use crate::attrs_iter::{AttrsIter, RestOfAttrs};
 use crate::duplicate::Duplicate;
 use crate::few_attrs::FewAttrs;
 use crate::name::Name;
@@ -121,8 +121,8 @@ impl Attrs {
         ensures ordered { IsInOrder self.now }
     {
         let left = match &self.store {
-            Store::Few(pairs) => Left::Few(pairs.as_slice()),
-            Store::Many(pairs) => Left::Many(pairs.iter()),
+            Store::Few(pairs) => RestOfAttrs::Few(pairs.as_slice()),
+            Store::Many(pairs) => RestOfAttrs::Many(pairs.iter()),
         };
         AttrsIter { left }
     }

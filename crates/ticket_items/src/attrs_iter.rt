@@ -6,12 +6,12 @@ use std::marker::Model;
 /// What is left of the names and texts of attributes, in byte order of the names.
 #[derive(Drop)]
 pub struct AttrsIter<'a> {
-    pub(crate) left: Left<'a>,
+    pub(crate) left: RestOfAttrs<'a>,
 }
 
 /// What is left of a list or of a map.
 #[derive(Drop)]
-pub(crate) enum Left<'a> {
+pub(crate) enum RestOfAttrs<'a> {
     Few(&'a [(Name, Text)]),
     Many(Iter<'a, Name, Text>),
 }
@@ -21,7 +21,7 @@ impl<'a> Model for AttrsIter<'a> {
 
     ghost Value = { Pairs };
 
-    ghost use Rattle.ticket_items.specs.declared.attrs_iter.Left.TheVariants.{Few, Many};
+    ghost use Rattle.ticket_items.specs.declared.attrs_iter.RestOfAttrs.TheVariants.{Few, Many};
 
     ghost view = { λ a. elim a.left [ Few pairs ↦ pairs.now | Many pairs ↦ pairs ] };
 }
@@ -39,12 +39,12 @@ impl<'a> Iterator for AttrsIter<'a> {
 
     fn next(&mut self) -> Option<(&'a Name, &'a Text)> {
         match &mut self.left {
-            Left::Few(pairs) => {
+            RestOfAttrs::Few(pairs) => {
                 let (first, others) = pairs.split_first()?;
                 *pairs = others;
                 Some((&first.0, &first.1))
             }
-            Left::Many(pairs) => pairs.next(),
+            RestOfAttrs::Many(pairs) => pairs.next(),
         }
     }
 }

@@ -43,11 +43,11 @@ impl Id {
         if !is_name(text) {
             return Err(Refusal::BadId);
         }
-        Ok(Id::known(alloc, text)?)
+        Ok(Id::from_valid(alloc, text)?)
     }
 
     /// The id of a text that is one, as `is_name` tells.
-    pub fn known(alloc: Global, text: &str) -> Result<Id, AllocError>
+    pub fn from_valid(alloc: Global, text: &str) -> Result<Id, AllocError>
         // Wants: the bytes of a valid id.
         requires { names.is_name text.now ≡ true }
         ensures { IfOk result (λ id. id ≡ text.now) }
@@ -67,8 +67,8 @@ impl Id {
     /// Its characters.
     pub fn as_str(&self) -> &str
         // Proved: An id, a name and a text keeps its characters, and they are valid.
-        // By `value`, `valid`; `Name::as_str`, `Text::as_str`: `value`, `valid`; `Id::known`,
-        // `Name::known`, `Text::known`.
+        // By `value`, `valid`; `Name::as_str`, `Text::as_str`: `value`, `valid`; `Id::from_valid`,
+        // `Name::from_valid`, `Text::from_valid`.
         ensures value { result.now ≡ self.now }
         ensures valid { names.is_name self.now ≡ true }
     {

@@ -38,11 +38,11 @@ impl Name {
         if !is_name(text) {
             return Err(Refusal::BadId);
         }
-        Ok(Name::known(alloc, text)?)
+        Ok(Name::from_valid(alloc, text)?)
     }
 
     /// The name of a text that is one, as `is_name` tells.
-    pub fn known(alloc: Global, text: &str) -> Result<Name, AllocError>
+    pub fn from_valid(alloc: Global, text: &str) -> Result<Name, AllocError>
         // Wants: the bytes of a valid name.
         requires { names.is_name text.now ≡ true }
         ensures { IfOk result (λ name. name ≡ text.now) }

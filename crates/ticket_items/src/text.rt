@@ -35,11 +35,11 @@ impl Text {
         if !is_text(text) {
             return Err(Refusal::BadText);
         }
-        Ok(Text::known(alloc, text)?)
+        Ok(Text::from_valid(alloc, text)?)
     }
 
     /// The text of one that is short enough, as `is_text` tells.
-    pub fn known(alloc: Global, text: &str) -> Result<Text, AllocError>
+    pub fn from_valid(alloc: Global, text: &str) -> Result<Text, AllocError>
         // Wants: the bytes of a valid text.
         requires { names.is_text text.now ≡ true }
         ensures { IfOk result (λ t. t ≡ text.now) }

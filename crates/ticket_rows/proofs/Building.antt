@@ -11,9 +11,9 @@ use Rattle.std.specs.Str.{bytes_eq}
 use Rattle.ticket_items.proofs.Apart.{are_distinct-push, are_distinct-twice, front_distinct}
 use Rattle.ticket_items.specs.Ids.{mem, are_distinct}
 use Rattle.ticket_rows.proofs.Growth.{finds_node, finds_resource}
-use Rattle.ticket_rows.proofs.InLists.{raised-front}
+use Rattle.ticket_rows.proofs.InLists.{shifted_place-front}
 use Rattle.ticket_rows.proofs.Shapes.{ids-shapes, shape}
-use Rattle.ticket_rows.specs.Index.{Shape, Spots, Finds, Tells, ids_in, raised, shape_of, shapes_of}
+use Rattle.ticket_rows.specs.Index.{Finds, Shape, Spots, Tells, ids_in, shape_of, shapes_of, shifted_place}
 use Rattle.ticket_rows.specs.Index.{spot_under, with_more}
 use Rattle.ticket_rows.specs.Ticket.{ids, ids_of}
 use Rattle.ticket_rows.specs.declared.spot.Spot.TheVariants.{OfNode, InPool}
@@ -32,12 +32,12 @@ ids-push shapes s =
 -- ---- a node more
 
 stay : (shapes : List Shape) (spots : Spots) (places : List ℕ) → Finds shapes spots places
-    → (n : ℕ) → slice_get places n ≡ option_map (raised (length shapes)) (slice_get places n)
+    → (n : ℕ) → slice_get places n ≡ option_map (shifted_place (length shapes)) (slice_get places n)
 stay shapes spots places f n = by (slice_get places n) refl
   where
-    by : (o : Option ℕ) → slice_get places n ≡ o → o ≡ option_map (raised (length shapes)) o
+    by : (o : Option ℕ) → slice_get places n ≡ o → o ≡ option_map (shifted_place (length shapes)) o
     by None e = refl
-    by (Some k) e = ap Some (sym (raised-front (length shapes) k (f.within n k e)))
+    by (Some k) e = ap Some (sym (shifted_place-front (length shapes) k (f.within n k e)))
 
 pub tells_node : (shapes : List Shape) (s : Shape) (spots next : Spots) (places : List ℕ) (node : ℕ)
     → Finds shapes spots places → are_distinct (ids_in shapes) ≡ true → node ≡ length shapes

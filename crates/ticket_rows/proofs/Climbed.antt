@@ -5,7 +5,7 @@ use Rattle.std.specs.Option.{option_map}
 use Rattle.ticket_rows.proofs.Labels.{Side, side}
 use Rattle.ticket_rows.proofs.Parents.{Case, lengthened_case}
 use Rattle.ticket_rows.proofs.Walked.{get_set, set-long}
-use Rattle.ticket_rows.specs.Index.{lengthened}
+use Rattle.ticket_rows.specs.Index.{longer_run}
 use Rattle.ticket_rows.specs.Parents.{AreParents, EndBefore, IsAbove, Nest}
 
 one : (a b : ℕ) → Some a ≡ Some b → a ≡ b
@@ -13,28 +13,28 @@ one a b e = cc
 
 -- from a place on all are lengthened by one more below the row at p, and those in front not yet
 pub record Climbed (p : ℕ) (old new : List ℕ) (place : ℕ) : Type 0 where
-  pub done : (m : ℕ) → place ≤ m → slice_get new m ≡ option_map (lengthened p m) (slice_get old m)
+  pub done : (m : ℕ) → place ≤ m → slice_get new m ≡ option_map (longer_run p m) (slice_get old m)
   pub rest : (m : ℕ) → m < place → slice_get new m ≡ slice_get old m
   pub long : length new ≡ length old
 
-has_it : (p i n : ℕ) → i ≤ p → p ≤ i + n → Case p i n → lengthened p i n ≡ n + 1
+has_it : (p i n : ℕ) → i ≤ p → p ≤ i + n → Case p i n → longer_run p i n ≡ n + 1
 has_it p i n front reach (inl c) = omega (arith, c.2)
 has_it p i n front reach (inr (inl c)) = let past : p < i = c.0 in absurd (omega arith)
 has_it p i n front reach (inr (inr c)) = let short : i + n < p = c.0 in absurd (omega arith)
 
-ends_early : (p i n : ℕ) → i + n < p → Case p i n → lengthened p i n ≡ n
+ends_early : (p i n : ℕ) → i + n < p → Case p i n → longer_run p i n ≡ n
 ends_early p i n low (inl c) = let reach : p ≤ i + n = c.1 in absurd (omega arith)
 ends_early p i n low (inr (inl c)) = c.1
 ends_early p i n low (inr (inr c)) = c.1
 
-starts_late : (p i n : ℕ) → p < i → Case p i n → lengthened p i n ≡ n
+starts_late : (p i n : ℕ) → p < i → Case p i n → longer_run p i n ≡ n
 starts_late p i n high (inl c) = let front : i ≤ p = c.0 in absurd (omega arith)
 starts_late p i n high (inr (inl c)) = c.1
 starts_late p i n high (inr (inr c)) = c.1
 
 -- what none of them has stays
-kept : (p m : ℕ) (o : Option ℕ) → ((n : ℕ) → o ≡ Some n → lengthened p m n ≡ n)
-    → o ≡ option_map (lengthened p m) o
+kept : (p m : ℕ) (o : Option ℕ) → ((n : ℕ) → o ≡ Some n → longer_run p m n ≡ n)
+    → o ≡ option_map (longer_run p m) o
 kept p m None same = refl
 kept p m (Some n) same = ap Some (sym (same n refl))
 
@@ -50,10 +50,10 @@ climbed_first p old v at =
         → ((m ≡ p) × (slice_get new m ≡ Some (v + 1)))
         ⊎ ((m < p) × (slice_get new m ≡ slice_get old m))
         ⊎ ((p < m) × (slice_get new m ≡ slice_get old m))
-        → slice_get new m ≡ option_map (lengthened p m) (slice_get old m)
+        → slice_get new m ≡ option_map (longer_run p m) (slice_get old m)
     done m high (inl e) =
         e.1 ∙ ap Some (sym (has_it p p v (omega arith) (omega arith) (lengthened_case p p v)))
-        ∙ sym (ap (λ i. option_map (lengthened p i) (slice_get old i)) e.0 ∙ ap (option_map (lengthened p p)) at)
+        ∙ sym (ap (λ i. option_map (longer_run p i) (slice_get old i)) e.0 ∙ ap (option_map (longer_run p p)) at)
     done m high (inr (inl e)) = let low : m < p = e.0 in absurd (omega arith)
     done m high (inr (inr e)) = e.1 ∙ kept p m (slice_get old m) (λ n is. starts_late p m n e.0 (lengthened_case p m n))
 
@@ -79,7 +79,7 @@ climbed_more p old new place above v c within front last at reach =
     next = set new above (v + 1)
 
     between : (m : ℕ) → above < m → Side place m
-        → slice_get new m ≡ option_map (lengthened p m) (slice_get old m)
+        → slice_get new m ≡ option_map (longer_run p m) (slice_get old m)
     between m high (inl s) =
         c.rest m s ∙ kept p m (slice_get old m) (λ n is. let early : m + n < place = last m n (omega arith) s is in ends_early p m n (omega arith) (lengthened_case p m n))
     between m high (inr (inl s)) = c.done m (omega (arith, s))
@@ -92,10 +92,10 @@ climbed_more p old new place above v c within front last at reach =
         → ((m ≡ above) × (slice_get next m ≡ Some (v + 1)))
         ⊎ ((m < above) × (slice_get next m ≡ slice_get new m))
         ⊎ ((above < m) × (slice_get next m ≡ slice_get new m))
-        → slice_get next m ≡ option_map (lengthened p m) (slice_get old m)
+        → slice_get next m ≡ option_map (longer_run p m) (slice_get old m)
     done m high (inl e) =
         e.1 ∙ ap Some (sym (has_it p above v (omega arith) reach (lengthened_case p above v)))
-        ∙ sym (ap (λ i. option_map (lengthened p i) (slice_get old i)) e.0 ∙ ap (option_map (lengthened p above)) at)
+        ∙ sym (ap (λ i. option_map (longer_run p i) (slice_get old i)) e.0 ∙ ap (option_map (longer_run p above)) at)
     done m high (inr (inl e)) = let low : m < above = e.0 in absurd (omega arith)
     done m high (inr (inr e)) = e.1 ∙ between m e.0 (side place m)
 
@@ -169,7 +169,7 @@ climb_more p old new places parents parent place above v next upper h a c front 
 
 pub climb_end : (p : ℕ) (old new places : List ℕ) (parent place above : ℕ)
     → Climb p old new places parent place above → place ≤ above
-    → (k : ℕ) → slice_get new k ≡ option_map (lengthened p k) (slice_get old k)
+    → (k : ℕ) → slice_get new k ≡ option_map (longer_run p k) (slice_get old k)
 climb_end p old new places parent place above c high k = by (side place k)
   where
     front : above ≤ place
@@ -178,7 +178,7 @@ climb_end p old new places parent place above c high k = by (side place k)
     none : EndBefore old 0 place
     none = c.up.none (omega arith)
 
-    by : Side place k → slice_get new k ≡ option_map (lengthened p k) (slice_get old k)
+    by : Side place k → slice_get new k ≡ option_map (longer_run p k) (slice_get old k)
     by (inl s) =
         c.climbed.rest k s
         ∙ kept p k (slice_get old k) (λ n is. let early : k + n < place = none k n (omega arith) s is in ends_early p k n (omega (arith, c.within)) (lengthened_case p k n))

@@ -16,10 +16,10 @@ use Rattle.ticket_items.proofs.Places.{position-cons}
 use Rattle.ticket_items.specs.Ids.{mem}
 use Rattle.ticket_rows.proofs.InLists.{find-behind, find-none, find-skips, find-swap, get_front}
 use Rattle.ticket_rows.proofs.InLists.{get_last, get_push, get_within, position-none}
-use Rattle.ticket_rows.proofs.InLists.{position-skips, position-swap, raised-le}
+use Rattle.ticket_rows.proofs.InLists.{position-skips, position-swap, shifted_place-le}
 use Rattle.ticket_rows.specs.Index.{Shape, Spots, Finds, ids_in, node_place, home_place, pool_place}
 use Rattle.ticket_rows.specs.Index.{resource_place, spot_under, node_of, node_at, resource_at}
-use Rattle.ticket_rows.specs.Index.{raised, with_more}
+use Rattle.ticket_rows.specs.Index.{shifted_place, with_more}
 use Rattle.ticket_rows.specs.declared.spot.Spot.{Spot}
 use Rattle.ticket_rows.specs.declared.spot.Spot.TheVariants.{OfNode, InPool}
 
@@ -95,11 +95,11 @@ ids-node x front back new bare =
     row false a b = refl
 
 moved_node : (moved places : List ℕ) (from : ℕ) (o : Option Spot)
-    → ((n : ℕ) → slice_get moved n ≡ option_map (raised from) (slice_get places n))
+    → ((n : ℕ) → slice_get moved n ≡ option_map (shifted_place from) (slice_get places n))
     → length moved ≡ length places
     → ((s : Spot) → o ≡ Some s → node_of s < length places)
     → option_and_then (node_at (moved ++ from ∷ [])) o
-    ≡ option_map (raised from) (option_and_then (node_at places) o)
+    ≡ option_map (shifted_place from) (option_and_then (node_at places) o)
 moved_node moved places from None at long came = refl
 moved_node moved places from (Some (OfNode n)) at long came =
     let low : n < length places = came (OfNode n) refl in
@@ -107,10 +107,10 @@ moved_node moved places from (Some (OfNode n)) at long came =
 moved_node moved places from (Some (InPool h k)) at long came = refl
 
 abbrev both : ℕ → ℕ × ℕ → ℕ × ℕ
-both from b = (raised from b.0, b.1)
+both from b = (shifted_place from b.0, b.1)
 
 moved_resource : (moved places : List ℕ) (from : ℕ) (o : Option Spot)
-    → ((n : ℕ) → slice_get moved n ≡ option_map (raised from) (slice_get places n))
+    → ((n : ℕ) → slice_get moved n ≡ option_map (shifted_place from) (slice_get places n))
     → length moved ≡ length places
     → ((s : Spot) → o ≡ Some s → node_of s < length places)
     → option_and_then (resource_at (moved ++ from ∷ [])) o
@@ -122,7 +122,7 @@ moved_resource moved places from (Some (InPool h k)) at long came =
     ap (option_map (λ j. (j, k))) (get_front moved (from ∷ []) h (omega arith) ∙ at h) ∙ row (slice_get places h)
   where
     row : (o : Option ℕ)
-        → option_map (λ j. (j, k)) (option_map (raised from) o)
+        → option_map (λ j. (j, k)) (option_map (shifted_place from) o)
         ≡ option_map (both from) (option_map (λ j. (j, k)) o)
     row None = refl
     row (Some j) = refl
@@ -138,7 +138,7 @@ place-skips x front back new bare =
     ∙ row (home_place (front ++ back) x) old
   where
     row : (h p : Option ℕ)
-        → option_and_then {U = ℕ × ℕ} (λ home. option_map (λ place. (home, place)) p) (option_map (raised (length front)) h)
+        → option_and_then {U = ℕ × ℕ} (λ home. option_map (λ place. (home, place)) p) (option_map (shifted_place (length front)) h)
         ≡ option_map (both (length front)) (option_and_then {U = ℕ × ℕ} (λ home. option_map (λ place. (home, place)) p) h)
     row None p = refl
     row (Some h) None = refl
@@ -149,7 +149,7 @@ pub finds_node : (front back : List Shape) (new : Shape) (spots next : Spots)
     → new.pool ≡ [] → mem new.id (ids_in (front ++ back)) ≡ false
     → ((x : List ℕ) → spot_under next x
     ≡ cond (bytes_eq new.id x) (Some (OfNode (length places))) (spot_under spots x))
-    → ((n : ℕ) → slice_get moved n ≡ option_map (raised (length front)) (slice_get places n))
+    → ((n : ℕ) → slice_get moved n ≡ option_map (shifted_place (length front)) (slice_get places n))
     → length moved ≡ length places → Finds (front ++ back) spots places
     → Finds (front ++ new ∷ back) next (moved ++ length front ∷ [])
 finds_node front back new spots next places moved bare out put at long f =
@@ -179,7 +179,7 @@ finds_node front back new spots next places moved bare out put at long f =
         ∙ ap Some (omega arith) ∙ sym (behind (λ s. bytes_eq s.id x) front (new ∷ back) 0 none first)
     nodes x false e =
         ap (option_and_then (node_at ends)) (spot x false e) ∙ moved_node moved places (length front) (spot_under spots x) at long (f.came x)
-        ∙ ap (option_map (raised (length front))) (f.nodes x) ∙ sym (position-skips (λ s. bytes_eq s.id x) front back new e)
+        ∙ ap (option_map (shifted_place (length front))) (f.nodes x) ∙ sym (position-skips (λ s. bytes_eq s.id x) front back new e)
 
     resources : (x : List ℕ) (b : Bool) → bytes_eq new.id x ≡ b
         → option_and_then (resource_at ends) (spot_under next x)
@@ -202,10 +202,10 @@ finds_node front back new spots next places moved bare out put at long f =
 
     old : (n k : ℕ) (o : Option ℕ) → slice_get places n ≡ o → slice_get moved n ≡ Some k
         → k < length (front ++ new ∷ back)
-    old n k None e there = cc (sym (at n ∙ ap (option_map (raised (length front))) e) ∙ there)
+    old n k None e there = cc (sym (at n ∙ ap (option_map (shifted_place (length front))) e) ∙ there)
     old n k (Some j) e there =
-        let is : raised (length front) j ≡ k = cc (sym (at n ∙ ap (option_map (raised (length front))) e) ∙ there) in
-        omega (arith, is, raised-le (length front) j, f.within n j e, length-append front back, length-append front (new ∷ back))
+        let is : shifted_place (length front) j ≡ k = cc (sym (at n ∙ ap (option_map (shifted_place (length front))) e) ∙ there) in
+        omega (arith, is, shifted_place-le (length front) j, f.within n j e, length-append front back, length-append front (new ∷ back))
 
     within : (n k : ℕ) → slice_get ends n ≡ Some k → k < length (front ++ new ∷ back)
     within = get_push (λ k. k < length (front ++ new ∷ back)) moved (length front) (λ n k there. old n k (slice_get places n) refl there) (omega (arith, length-append front (new ∷ back)))

@@ -7,60 +7,60 @@ use Rattle.std.specs.List.{find, list_any, position}
 use Rattle.std.specs.Option.{option_map, option_and_then}
 use Rattle.ticket_items.proofs.KeyPlaces.{some_passes}
 use Rattle.ticket_items.proofs.Places.{is_some-find, none_at_position, position-cons}
-use Rattle.ticket_rows.specs.Index.{raised}
+use Rattle.ticket_rows.specs.Index.{shifted_place}
 
 -- ---- places that are raised
 
-pub raised-front : (from k : ℕ) → k < from → raised from k ≡ k
-raised-front from k low = ap (λ b. cond b (suc k) k) (lt-leb from k low)
+pub shifted_place-front : (from k : ℕ) → k < from → shifted_place from k ≡ k
+shifted_place-front from k low = ap (λ b. cond b (suc k) k) (lt-leb from k low)
 
-pub raised-behind : (from k : ℕ) → from ≤ k → raised from k ≡ suc k
-raised-behind from k high = ap (λ b. cond b (suc k) k) (le-leb from k high)
+pub shifted_place-behind : (from k : ℕ) → from ≤ k → shifted_place from k ≡ suc k
+shifted_place-behind from k high = ap (λ b. cond b (suc k) k) (le-leb from k high)
 
-raised-suc : (from k : ℕ) → suc (raised from k) ≡ raised (suc from) (suc k)
-raised-suc from k = by (leb from k) refl
+shifted_place-suc : (from k : ℕ) → suc (shifted_place from k) ≡ shifted_place (suc from) (suc k)
+shifted_place-suc from k = by (leb from k) refl
   where
-    by : (b : Bool) → leb from k ≡ b → suc (raised from k) ≡ raised (suc from) (suc k)
+    by : (b : Bool) → leb from k ≡ b → suc (shifted_place from k) ≡ shifted_place (suc from) (suc k)
     by true e =
         let low : from ≤ k = leb-true from k e in
-        ap suc (raised-behind from k low) ∙ sym (raised-behind (suc from) (suc k) (omega arith))
+        ap suc (shifted_place-behind from k low) ∙ sym (shifted_place-behind (suc from) (suc k) (omega arith))
     by false e =
         let high : k < from = leb-false from k e in
-        ap suc (raised-front from k high) ∙ sym (raised-front (suc from) (suc k) (omega arith))
+        ap suc (shifted_place-front from k high) ∙ sym (shifted_place-front (suc from) (suc k) (omega arith))
 
-pub raised-le : (from k : ℕ) → raised from k ≤ suc k
-raised-le from k = by (leb from k) refl
+pub shifted_place-le : (from k : ℕ) → shifted_place from k ≤ suc k
+shifted_place-le from k = by (leb from k) refl
   where
-    by : (b : Bool) → leb from k ≡ b → raised from k ≤ suc k
+    by : (b : Bool) → leb from k ≡ b → shifted_place from k ≤ suc k
     by true e =
-        let is : raised from k ≡ suc k = raised-behind from k (leb-true from k e) in
+        let is : shifted_place from k ≡ suc k = shifted_place-behind from k (leb-true from k e) in
         omega arith
     by false e =
-        let is : raised from k ≡ k = raised-front from k (leb-false from k e) in
+        let is : shifted_place from k ≡ k = shifted_place-front from k (leb-false from k e) in
         omega arith
 
 -- ---- one more that fails a test
 
 pub position-skips : {X : Type 0} (p : X → Bool) (front back : List X) (y : X) → p y ≡ false
     → position p (front ++ y ∷ back)
-    ≡ option_map (raised (length front)) (position p (front ++ back))
+    ≡ option_map (shifted_place (length front)) (position p (front ++ back))
 position-skips p [] back y fails =
     position-cons p y back ∙ ap (λ b. cond b (Some 0) (option_map suc (position p back))) fails ∙ row (position p back)
   where
-    row : (o : Option ℕ) → option_map suc o ≡ option_map (raised 0) o
+    row : (o : Option ℕ) → option_map suc o ≡ option_map (shifted_place 0) o
     row None = refl
-    row (Some k) = ap Some (sym (raised-behind 0 k (omega arith)))
+    row (Some k) = ap Some (sym (shifted_place-behind 0 k (omega arith)))
 position-skips p (x ∷ front) back y fails =
     position-cons p x (front ++ y ∷ back) ∙ ap (λ o. cond (p x) (Some 0) (option_map suc o)) (position-skips p front back y fails)
     ∙ row (p x) (position p (front ++ back)) (length front)
-    ∙ sym (ap (option_map (raised (suc (length front)))) (position-cons p x (front ++ back)))
+    ∙ sym (ap (option_map (shifted_place (suc (length front)))) (position-cons p x (front ++ back)))
   where
     row : (b : Bool) (o : Option ℕ) (n : ℕ)
-        → cond b (Some 0) (option_map suc (option_map (raised n) o))
-        ≡ option_map (raised (suc n)) (cond b (Some 0) (option_map suc o))
-    row true o n = ap Some (sym (raised-front (suc n) 0 (omega arith)))
+        → cond b (Some 0) (option_map suc (option_map (shifted_place n) o))
+        ≡ option_map (shifted_place (suc n)) (cond b (Some 0) (option_map suc o))
+    row true o n = ap Some (sym (shifted_place-front (suc n) 0 (omega arith)))
     row false None n = refl
-    row false (Some k) n = ap Some (raised-suc n k)
+    row false (Some k) n = ap Some (shifted_place-suc n k)
 
 pub find-skips : {X : Type 0} (p : X → Bool) (front back : List X) (y : X) → p y ≡ false
     → find p (front ++ y ∷ back) ≡ find p (front ++ back)

@@ -21,8 +21,8 @@ use Rattle.ticket_rows.proofs.Shapes.{ids-shapes, length-runs-rows, node-rows, r
 use Rattle.ticket_rows.proofs.Shapes.{runs_grow, shape}
 use Rattle.ticket_rows.specs.ChangedRow.{at_place, end_behind}
 use Rattle.ticket_rows.specs.Edit.{with_resource}
-use Rattle.ticket_rows.specs.Index.{AreAlike, Finds, IsIndex, Shape, Spots, ids_in, lengthened}
-use Rattle.ticket_rows.specs.Index.{node_at, raised, runs_of, shape_of, shapes_of, spot_under}
+use Rattle.ticket_rows.specs.Index.{AreAlike, Finds, IsIndex, Shape, Spots, ids_in, longer_run}
+use Rattle.ticket_rows.specs.Index.{node_at, runs_of, shape_of, shapes_of, shifted_place, spot_under}
 use Rattle.ticket_rows.specs.Index.{with_more}
 use Rattle.ticket_rows.specs.Parents.{AreParents}
 use Rattle.ticket_rows.specs.Ticket.{depths, ids}
@@ -69,7 +69,7 @@ pub finds_insert : (rows : List NodeRow) (i : ℕ) (new : NodeRow) (spots next :
     → i ≤ length rows → new.resources ≡ [] → mem new.id (ids rows) ≡ false
     → ((x : List ℕ) → spot_under next x
     ≡ cond (bytes_eq new.id x) (Some (OfNode (length places))) (spot_under spots x))
-    → ((n : ℕ) → slice_get moved n ≡ option_map (raised i) (slice_get places n))
+    → ((n : ℕ) → slice_get moved n ≡ option_map (shifted_place i) (slice_get places n))
     → length moved ≡ length places → Finds (shapes_of rows) spots places
     → Finds (shapes_of (insert rows i new)) next (moved ++ i ∷ [])
 finds_insert rows i new spots next places moved within bare out put at long f =
@@ -78,7 +78,7 @@ finds_insert rows i new spots next places moved within bare out put at long f =
     let whole : front ++ back ≡ shapes_of rows = sym (map-append shape_of (take i rows) (drop i rows)) ∙ ap shapes_of (take-append-drop i rows) in
     let count : length front ≡ i = length-map (take i rows) shape_of ∙ length-take-le i rows within in
     let none : mem new.id (ids_in (front ++ back)) ≡ false = ap (λ ss. mem new.id (ids_in ss)) whole ∙ ap (mem new.id) (ids-shapes rows) ∙ out in
-    let grown = finds_node front back (shape_of new) spots next places moved (ap (map (λ (x : Resource). x.id)) bare) none put (λ n. at n ∙ ap (λ k. option_map (raised k) (slice_get places n)) (sym count)) long (subst (λ ss. Finds ss spots places) (sym whole) f) in
+    let grown = finds_node front back (shape_of new) spots next places moved (ap (map (λ (x : Resource). x.id)) bare) none put (λ n. at n ∙ ap (λ k. option_map (shifted_place k) (slice_get places n)) (sym count)) long (subst (λ ss. Finds ss spots places) (sym whole) f) in
     subst (λ k. Finds (shapes_of (insert rows i new)) next (moved ++ k ∷ [])) count (subst (λ ss. Finds ss next (moved ++ length front ∷ [])) (sym (map-append shape_of (take i rows) (new ∷ drop i rows))) grown)
 
 -- ---- a new resource
@@ -189,9 +189,9 @@ pub columns_with_node : (rows : List NodeRow) (k n node : ℕ) (r new : NodeRow)
     ≡ cond (bytes_eq new.id x) (Some (OfNode (length index.places.items)))
     (spot_under index.spots x))
     → ((m : ℕ) → slice_get moved m
-    ≡ option_map (raised (k + 1 + n)) (slice_get index.places.items m))
+    ≡ option_map (shifted_place (k + 1 + n)) (slice_get index.places.items m))
     → length moved ≡ length index.places.items
-    → ((j : ℕ) → slice_get longer j ≡ option_map (lengthened k j) (slice_get index.runs.items j))
+    → ((j : ℕ) → slice_get longer j ≡ option_map (longer_run k j) (slice_get index.runs.items j))
     → length longer ≡ length index.runs.items → slice_get index.places.items node ≡ Some k
     → Columns (insert rows (k + 1 + n) new) next (moved ++ (k + 1 + n) ∷ [])
     (index.parents.items ++ node ∷ []) (insert longer (k + 1 + n) 0)
@@ -199,7 +199,7 @@ columns_with_node rows k n node r new index next moved longer i run at bare one 
     let end : k + 1 + n ≡ end_behind rows k r = end_told rows k n r index i run at in
     let within : k + 1 + n ≤ length rows = omega (arith, runs_end rows k n index i run) in
     let old = runs_of (depths rows) in
-    let more = λ (j : ℕ). grow j ∙ ap (λ ns. option_map (lengthened k j) (slice_get ns j)) i.runs in
+    let more = λ (j : ℕ). grow j ∙ ap (λ ns. option_map (longer_run k j) (slice_get ns j)) i.runs in
     let runs : insert longer (k + 1 + n) 0 ≡ runs_of (depths (insert rows (k + 1 + n) new))
     = ap (λ e. insert longer e 0) end ∙ runs_grow rows k r new longer at one more ∙ ap (λ e. runs_of (depths (insert rows e new))) (sym end) in
     let grown = runs_grown old longer k (k + 1 + n) more (omega arith) (omega (arith, within, longs, runs_long rows index i)) in

@@ -7,10 +7,10 @@ use Rattle.std.proofs.lemmas.Bool.{leb-true, leb-false, le-leb, lt-leb}
 use Rattle.std.proofs.lemmas.List.{length-map, map-append, length-append}
 use Rattle.std.proofs.lemmas.List.Edits.{length-insert}
 use Rattle.std.specs.Option.{option_map}
-use Rattle.ticket_rows.proofs.InLists.{get_there, get_push, get_within, raised-front, raised-behind}
+use Rattle.ticket_rows.proofs.InLists.{get_push, get_there, get_within, shifted_place-behind, shifted_place-front}
 use Rattle.ticket_rows.proofs.RunsGrow.{same_list}
 use Rattle.ticket_rows.proofs.Walked.{Walked, walked_end}
-use Rattle.ticket_rows.specs.Index.{raised}
+use Rattle.ticket_rows.specs.Index.{shifted_place}
 use Rattle.ticket_rows.specs.Labels.{AreLabels, Fits, Rise, even_labels, numbers_below, place_in}
 use Rattle.ticket_rows.specs.Labels.{places_of}
 
@@ -137,16 +137,16 @@ insert_behind (x ∷ xs) (suc e) y zero low behind = absurd (omega arith)
 insert_behind (x ∷ xs) (suc e) y (suc k) low behind = insert_behind xs e y k (omega arith) (omega arith)
 
 pub insert_raised : {X : Type 0} (xs : List X) (e : ℕ) (y : X) (k : ℕ) → e ≤ length xs
-    → slice_get (insert xs e y) (raised e k) ≡ slice_get xs k
+    → slice_get (insert xs e y) (shifted_place e k) ≡ slice_get xs k
 insert_raised xs e y k low = by (leb e k) refl
   where
-    by : (b : Bool) → leb e k ≡ b → slice_get (insert xs e y) (raised e k) ≡ slice_get xs k
+    by : (b : Bool) → leb e k ≡ b → slice_get (insert xs e y) (shifted_place e k) ≡ slice_get xs k
     by true c =
         let high : e ≤ k = leb-true e k c in
-        ap (slice_get (insert xs e y)) (raised-behind e k high) ∙ insert_behind xs e y k low high
+        ap (slice_get (insert xs e y)) (shifted_place-behind e k high) ∙ insert_behind xs e y k low high
     by false c =
         let front : k < e = leb-false e k c in
-        ap (slice_get (insert xs e y)) (raised-front e k front) ∙ insert_front xs e y k low front
+        ap (slice_get (insert xs e y)) (shifted_place-front e k front) ∙ insert_front xs e y k low front
 
 -- a place in a list with one more is in front of that, is its own, or behind it
 abbrev pub Side : ℕ → ℕ → Type 0
@@ -211,22 +211,22 @@ rise_insert order e y rise fits low i j a b less at there = by (side e i) (side 
 -- where another's label stands then
 moved : (labels order : List ℕ) (e y : ℕ) → AreLabels labels order → Fits order e y
     → e ≤ length order → (n l : ℕ) → slice_get labels n ≡ Some l
-    → (slice_get (insert order e y) (raised e (place_in order l)) ≡ Some l)
-    × (place_in (insert order e y) l ≡ raised e (place_in order l))
+    → (slice_get (insert order e y) (shifted_place e (place_in order l)) ≡ Some l)
+    × (place_in (insert order e y) l ≡ shifted_place e (place_in order l))
 moved labels order e y h fits low n l at =
-    let there : slice_get (insert order e y) (raised e (place_in order l)) ≡ Some l
+    let there : slice_get (insert order e y) (shifted_place e (place_in order l)) ≡ Some l
     = insert_raised order e y (place_in order l) low ∙ h.there n l at in
-    (there, place_at (insert order e y) (raised e (place_in order l)) l (rise_insert order e y h.rise fits low) there)
+    (there, place_at (insert order e y) (shifted_place e (place_in order l)) l (rise_insert order e y h.rise fits low) there)
 
 pub places_insert : (labels order : List ℕ) (e y : ℕ) → AreLabels labels order → Fits order e y
     → e ≤ length order
     → places_of (labels ++ y ∷ []) (insert order e y)
-    ≡ map (raised e) (places_of labels order) ++ e ∷ []
+    ≡ map (shifted_place e) (places_of labels order) ++ e ∷ []
 places_insert labels order e y h fits low =
     let new = insert order e y in
     map-append (place_in new) labels (y ∷ [])
     ∙ ap (λ k. map (place_in new) labels ++ k ∷ []) (place_at new e y (rise_insert order e y h.rise fits low) (insert_at order e y low))
-    ∙ ap (λ ks. ks ++ e ∷ []) (same_map (place_in new) (raised e) (place_in order) labels (λ n l at. (moved labels order e y h fits low n l at).1))
+    ∙ ap (λ ks. ks ++ e ∷ []) (same_map (place_in new) (shifted_place e) (place_in order) labels (λ n l at. (moved labels order e y h fits low n l at).1))
 
 pub labels_insert : (labels order : List ℕ) (e y : ℕ) → AreLabels labels order → Fits order e y
     → e ≤ length order → AreLabels (labels ++ y ∷ []) (insert order e y)

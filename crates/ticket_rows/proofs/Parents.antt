@@ -5,12 +5,12 @@ use Rattle.std.proofs.Common.{leb, slice_get, subst, arith, ◌⊎◌, inl, inr}
 use Rattle.std.proofs.lemmas.Bool.{leb-true, leb-false}
 use Rattle.std.proofs.lemmas.List.{length-append}
 use Rattle.std.specs.Option.{option_map}
-use Rattle.ticket_rows.proofs.InLists.{get_front, get_there, get_within, raised-front}
-use Rattle.ticket_rows.proofs.InLists.{raised-behind}
+use Rattle.ticket_rows.proofs.InLists.{get_front, get_there, get_within, shifted_place-front}
+use Rattle.ticket_rows.proofs.InLists.{shifted_place-behind}
 use Rattle.ticket_rows.proofs.Labels.{Side, get_end, insert_at, insert_front, insert_behind}
 use Rattle.ticket_rows.proofs.Labels.{length-numbers, numbers_at, side}
 use Rattle.ticket_rows.proofs.RunsGrow.{deeper, length-runs, pass, stop}
-use Rattle.ticket_rows.specs.Index.{lengthened, raised, runs_of}
+use Rattle.ticket_rows.specs.Index.{longer_run, runs_of, shifted_place}
 use Rattle.ticket_rows.specs.Labels.{numbers_below}
 use Rattle.ticket_rows.specs.Parents.{AreParents, EachAbove, EndBefore, IsAbove, Nest}
 
@@ -189,8 +189,8 @@ parents_counted runs parents count each long =
 -- what the run at a place becomes where one more stands below the row at p
 abbrev pub Case : ℕ → ℕ → ℕ → Type 0
 Case p i n =
-    ((i ≤ p) × (p ≤ i + n) × (lengthened p i n ≡ suc n))
-    ⊎ ((p < i) × (lengthened p i n ≡ n)) ⊎ ((i + n < p) × (lengthened p i n ≡ n))
+    ((i ≤ p) × (p ≤ i + n) × (longer_run p i n ≡ suc n))
+    ⊎ ((p < i) × (longer_run p i n ≡ n)) ⊎ ((i + n < p) × (longer_run p i n ≡ n))
 
 pub lengthened_case : (p i n : ℕ) → Case p i n
 lengthened_case p i n = by (leb i p) refl (leb p (i + n)) refl
@@ -205,17 +205,17 @@ lengthened_case p i n = by (leb i p) refl (leb p (i + n)) refl
 -- runs with one more below the row at p, which is put in at e
 pub record Grown (old new : List ℕ) (p e : ℕ) : Type 0 where
   pub front : (i v : ℕ) → slice_get new i ≡ Some v → i < e
-      → (m : ℕ) × (slice_get old i ≡ Some m) × (v ≡ lengthened p i m)
+      → (m : ℕ) × (slice_get old i ≡ Some m) × (v ≡ longer_run p i m)
   pub own : (v : ℕ) → slice_get new e ≡ Some v → v ≡ 0
   pub behind : (i v : ℕ) → slice_get new (suc i) ≡ Some v → e ≤ i → slice_get old i ≡ Some v
 
-was : (p i v : ℕ) (o : Option ℕ) → Some v ≡ option_map (lengthened p i) o
-    → (m : ℕ) × (o ≡ Some m) × (v ≡ lengthened p i m)
+was : (p i v : ℕ) (o : Option ℕ) → Some v ≡ option_map (longer_run p i) o
+    → (m : ℕ) × (o ≡ Some m) × (v ≡ longer_run p i m)
 was p i v None e = cc
-was p i v (Some m) e = (m, refl, one v (lengthened p i m) e)
+was p i v (Some m) e = (m, refl, one v (longer_run p i m) e)
 
 pub runs_grown : (old longer : List ℕ) (p e : ℕ)
-    → ((i : ℕ) → slice_get longer i ≡ option_map (lengthened p i) (slice_get old i))
+    → ((i : ℕ) → slice_get longer i ≡ option_map (longer_run p i) (slice_get old i))
     → p < e → e ≤ length longer → Grown old (insert longer e 0) p e
 runs_grown old longer p e grow high low = record { front = front; own = own; behind = behind }
   where
@@ -223,13 +223,13 @@ runs_grown old longer p e grow high low = record { front = front; own = own; beh
     new = insert longer e 0
 
     front : (i v : ℕ) → slice_get new i ≡ Some v → i < e
-        → (m : ℕ) × (slice_get old i ≡ Some m) × (v ≡ lengthened p i m)
+        → (m : ℕ) × (slice_get old i ≡ Some m) × (v ≡ longer_run p i m)
     front i v at small = was p i v (slice_get old i) (sym at ∙ insert_front longer e 0 i low small ∙ grow i)
 
     own : (v : ℕ) → slice_get new e ≡ Some v → v ≡ 0
     own v at = sym (one 0 v (sym (insert_at longer e 0 low) ∙ at))
 
-    same : (i m : ℕ) → e ≤ i → Case p i m → m ≡ lengthened p i m
+    same : (i m : ℕ) → e ≤ i → Case p i m → m ≡ longer_run p i m
     same i m far (inl c) = let near : i ≤ p = c.0 in absurd (omega arith)
     same i m far (inr (inl c)) = sym c.1
     same i m far (inr (inr c)) = sym c.1
@@ -243,10 +243,10 @@ runs_grown old longer p e grow high low = record { front = front; own = own; beh
 ends_moved : (old new : List ℕ) (p n e f g k : ℕ) → Nest old → slice_get old p ≡ Some n
     → e ≡ p + 1 + n → Grown old new p e → EndBefore old f k
     → ((i : ℕ) → i < e → g ≤ i → f ≤ i) → ((i : ℕ) → e ≤ i → g ≤ suc i → f ≤ i)
-    → EndBefore new g (raised e k)
+    → EndBefore new g (shifted_place e k)
 ends_moved old new p n e f g k h run is grown before near far i v from to at = by (side e i) (side e k)
   where
-    short : (m : ℕ) → slice_get old i ≡ Some m → v ≡ lengthened p i m → i + m < k → k < e
+    short : (m : ℕ) → slice_get old i ≡ Some m → v ≡ longer_run p i m → i + m < k → k < e
         → Case p i m → i + v < k
     short m there has less small (inl c) = absurd (over (side p i))
       where
@@ -263,16 +263,16 @@ ends_moved old new p n e f g k h run is grown before near far i v from to at = b
     short m there has less small (inr (inl c)) = omega (arith, has, c.1)
     short m there has less small (inr (inr c)) = omega (arith, has, c.1)
 
-    most : (m : ℕ) → v ≡ lengthened p i m → Case p i m → v ≤ suc m
+    most : (m : ℕ) → v ≡ longer_run p i m → Case p i m → v ≤ suc m
     most m has (inl c) = omega (arith, has, c.2)
     most m has (inr (inl c)) = omega (arith, has, c.1)
     most m has (inr (inr c)) = omega (arith, has, c.1)
 
-    stays : k < e → raised e k ≡ k
-    stays small = raised-front e k small
+    stays : k < e → shifted_place e k ≡ k
+    stays small = shifted_place-front e k small
 
-    goes : e ≤ k → raised e k ≡ suc k
-    goes big = raised-behind e k big
+    goes : e ≤ k → shifted_place e k ≡ suc k
+    goes big = shifted_place-behind e k big
 
     behind_or : (k ≡ e) ⊎ ((m : ℕ) × (k ≡ suc m) × (e ≤ m)) → e ≤ k
     behind_or (inl s) = omega (arith, s)
@@ -281,7 +281,7 @@ ends_moved old new p n e f g k h run is grown before near far i v from to at = b
         let high : e ≤ s.0 = s.2 in
         omega arith
 
-    by : Side e i → Side e k → i + v < raised e k
+    by : Side e i → Side e k → i + v < shifted_place e k
     by (inl q) (inl s) =
         let w = grown.front i v at q in
         let less : i + w.0 < k = before i w.0 (near i q from) (omega (arith, to, stays s)) w.1 in
@@ -304,25 +304,25 @@ ends_moved old new p n e f g k h run is grown before near far i v from to at = b
         let less : q.0 + v < k = before q.0 v (far q.0 q.2 (omega (arith, from))) (omega (arith, to, goes big)) (grown.behind q.0 v (ap (slice_get new) (sym up) ∙ at) q.2) in
         omega (arith, goes big)
 
-raised-moves : (e j k : ℕ) → j ≤ k → raised e j ≤ raised e k
-raised-moves e j k le = by (leb e j) refl (leb e k) refl
+shifted_place-moves : (e j k : ℕ) → j ≤ k → shifted_place e j ≤ shifted_place e k
+shifted_place-moves e j k le = by (leb e j) refl (leb e k) refl
   where
-    by : (b : Bool) → leb e j ≡ b → (c : Bool) → leb e k ≡ c → raised e j ≤ raised e k
-    by true p true q = omega (arith, raised-behind e j (leb-true e j p), raised-behind e k (leb-true e k q))
+    by : (b : Bool) → leb e j ≡ b → (c : Bool) → leb e k ≡ c → shifted_place e j ≤ shifted_place e k
+    by true p true q = omega (arith, shifted_place-behind e j (leb-true e j p), shifted_place-behind e k (leb-true e k q))
     by true p false q =
         let high : e ≤ j = leb-true e j p in
         let low : k < e = leb-false e k q in
         absurd (omega arith)
     by false p true q =
-        omega (arith, raised-front e j (leb-false e j p), raised-behind e k (leb-true e k q))
+        omega (arith, shifted_place-front e j (leb-false e j p), shifted_place-behind e k (leb-true e k q))
     by false p false q =
-        omega (arith, raised-front e j (leb-false e j p), raised-front e k (leb-false e k q))
+        omega (arith, shifted_place-front e j (leb-false e j p), shifted_place-front e k (leb-false e k q))
 
-raised-same : (e j k : ℕ) → raised e j ≡ raised e k → j ≤ k → j ≡ k
-raised-same e j k same le = by (leb e j) refl (leb e k) refl
+shifted_place-same : (e j k : ℕ) → shifted_place e j ≡ shifted_place e k → j ≤ k → j ≡ k
+shifted_place-same e j k same le = by (leb e j) refl (leb e k) refl
   where
     by : (b : Bool) → leb e j ≡ b → (c : Bool) → leb e k ≡ c → j ≡ k
-    by true p true q = omega (arith, same, raised-behind e j (leb-true e j p), raised-behind e k (leb-true e k q))
+    by true p true q = omega (arith, same, shifted_place-behind e j (leb-true e j p), shifted_place-behind e k (leb-true e k q))
     by true p false q =
         let high : e ≤ j = leb-true e j p in
         let low : k < e = leb-false e k q in
@@ -330,33 +330,33 @@ raised-same e j k same le = by (leb e j) refl (leb e k) refl
     by false p true q =
         let low : j < e = leb-false e j p in
         let high : e ≤ k = leb-true e k q in
-        absurd (omega (arith, same, raised-front e j low, raised-behind e k high))
+        absurd (omega (arith, same, shifted_place-front e j low, shifted_place-behind e k high))
     by false p false q =
-        omega (arith, same, raised-front e j (leb-false e j p), raised-front e k (leb-false e k q))
+        omega (arith, same, shifted_place-front e j (leb-false e j p), shifted_place-front e k (leb-false e k q))
 
 -- which stands above stays so
 pub above_moved : (old new : List ℕ) (p n e k j : ℕ) → Nest old → slice_get old p ≡ Some n
-    → e ≡ p + 1 + n → Grown old new p e → IsAbove old k j → IsAbove new (raised e k) (raised e j)
+    → e ≡ p + 1 + n → Grown old new p e → IsAbove old k j → IsAbove new (shifted_place e k) (shifted_place e j)
 above_moved old new p n e k j h run is grown a =
     record {
-      front = raised-moves e j k a.front;
+      front = shifted_place-moves e j k a.front;
       has = λ v at. has v at (side e j) (side e k);
-      last = ends_moved old new p n e (j + 1) (raised e j + 1) k h run is grown a.last near far;
-      none = λ same. ends_moved old new p n e 0 0 k h run is grown (a.none (raised-same e j k same a.front)) (λ i q from. omega arith) (λ i q from. omega arith);
+      last = ends_moved old new p n e (j + 1) (shifted_place e j + 1) k h run is grown a.last near far;
+      none = λ same. ends_moved old new p n e 0 0 k h run is grown (a.none (shifted_place-same e j k same a.front)) (λ i q from. omega arith) (λ i q from. omega arith);
     }
   where
-    near : (i : ℕ) → i < e → raised e j + 1 ≤ i → j + 1 ≤ i
+    near : (i : ℕ) → i < e → shifted_place e j + 1 ≤ i → j + 1 ≤ i
     near i small from = by (leb e j) refl
       where
         by : (b : Bool) → leb e j ≡ b → j + 1 ≤ i
-        by true q = omega (arith, from, raised-behind e j (leb-true e j q))
-        by false q = omega (arith, from, raised-front e j (leb-false e j q))
+        by true q = omega (arith, from, shifted_place-behind e j (leb-true e j q))
+        by false q = omega (arith, from, shifted_place-front e j (leb-false e j q))
 
-    far : (i : ℕ) → e ≤ i → raised e j + 1 ≤ suc i → j + 1 ≤ i
+    far : (i : ℕ) → e ≤ i → shifted_place e j + 1 ≤ suc i → j + 1 ≤ i
     far i big from = by (leb e j) refl
       where
         by : (b : Bool) → leb e j ≡ b → j + 1 ≤ i
-        by true q = omega (arith, from, raised-behind e j (leb-true e j q))
+        by true q = omega (arith, from, shifted_place-behind e j (leb-true e j q))
         by false q =
             let low : j < e = leb-false e j q in
             omega arith
@@ -370,7 +370,7 @@ above_moved old new p n e k j h run is grown a =
 
     -- a run that has the new one's place is lengthened
     longer : (m v : ℕ) → slice_get old j ≡ Some m → j < e → e ≤ k → k ≤ j + m → Case p j m
-        → v ≡ lengthened p j m → suc k ≤ j + v
+        → v ≡ longer_run p j m → suc k ≤ j + v
     longer m v there small big reach (inl c) grew = omega (arith, grew, c.2)
     longer m v there small big reach (inr (inl c)) grew =
         let past : p < j = c.0 in
@@ -380,26 +380,26 @@ above_moved old new p n e k j h run is grown a =
         let short : j + m < p = c.0 in
         absurd (omega arith)
 
-    same_or_more : (m v : ℕ) → Case p j m → v ≡ lengthened p j m → m ≤ v
+    same_or_more : (m v : ℕ) → Case p j m → v ≡ longer_run p j m → m ≤ v
     same_or_more m v (inl c) grew = omega (arith, grew, c.2)
     same_or_more m v (inr (inl c)) grew = omega (arith, grew, c.1)
     same_or_more m v (inr (inr c)) grew = omega (arith, grew, c.1)
 
-    has : (v : ℕ) → slice_get new (raised e j) ≡ Some v → Side e j → Side e k
-        → raised e k ≤ raised e j + v
+    has : (v : ℕ) → slice_get new (shifted_place e j) ≡ Some v → Side e j → Side e k
+        → shifted_place e k ≤ shifted_place e j + v
     has v at (inl s) (inl t) =
-        let w = grown.front j v (ap (slice_get new) (sym (raised-front e j s)) ∙ at) s in
+        let w = grown.front j v (ap (slice_get new) (sym (shifted_place-front e j s)) ∙ at) s in
         let reach : k ≤ j + w.0 = a.has w.0 w.1 in
-        omega (arith, raised-front e j s, raised-front e k t, same_or_more w.0 v (lengthened_case p j w.0) w.2)
+        omega (arith, shifted_place-front e j s, shifted_place-front e k t, same_or_more w.0 v (lengthened_case p j w.0) w.2)
     has v at (inl s) (inr t) =
         let big : e ≤ k = beyond k t in
-        let w = grown.front j v (ap (slice_get new) (sym (raised-front e j s)) ∙ at) s in
-        omega (arith, raised-front e j s, raised-behind e k big, longer w.0 v w.1 s big (a.has w.0 w.1) (lengthened_case p j w.0) w.2)
+        let w = grown.front j v (ap (slice_get new) (sym (shifted_place-front e j s)) ∙ at) s in
+        omega (arith, shifted_place-front e j s, shifted_place-behind e k big, longer w.0 v w.1 s big (a.has w.0 w.1) (lengthened_case p j w.0) w.2)
     has v at (inr s) t =
         let big : e ≤ j = beyond j s in
         let le : j ≤ k = a.front in
-        let reach : k ≤ j + v = a.has v (grown.behind j v (ap (slice_get new) (sym (raised-behind e j big)) ∙ at) big) in
-        omega (arith, raised-behind e j big, raised-behind e k (omega arith))
+        let reach : k ≤ j + v = a.has v (grown.behind j v (ap (slice_get new) (sym (shifted_place-behind e j big)) ∙ at) big) in
+        omega (arith, shifted_place-behind e j big, shifted_place-behind e k (omega arith))
 
 -- and the new one stands below the row at p
 pub above_new : (old new : List ℕ) (p n e : ℕ) → Nest old → slice_get old p ≡ Some n
@@ -418,7 +418,7 @@ above_new old new p n e h run is grown =
         let same : w.0 ≡ n = one w.0 n (sym w.1 ∙ run) in
         by w.0 w.2 same (lengthened_case p p w.0)
       where
-        by : (m : ℕ) → v ≡ lengthened p p m → m ≡ n → Case p p m → e ≤ p + v
+        by : (m : ℕ) → v ≡ longer_run p p m → m ≡ n → Case p p m → e ≤ p + v
         by m grew same (inl c) = omega (arith, is, grew, same, c.2)
         by m grew same (inr (inl c)) = let less : p < p = c.0 in absurd (omega arith)
         by m grew same (inr (inr c)) = let less : p + m < p = c.0 in absurd (omega arith)
@@ -429,7 +429,7 @@ above_new old new p n e h run is grown =
         let all : i + w.0 ≤ p + n = h.nested p i n w.0 (omega (arith, from)) (omega (arith, to, is)) run w.1 in
         by w.0 w.2 all (lengthened_case p i w.0)
       where
-        by : (m : ℕ) → v ≡ lengthened p i m → i + m ≤ p + n → Case p i m → i + v < e
+        by : (m : ℕ) → v ≡ longer_run p i m → i + m ≤ p + n → Case p i m → i + v < e
         by m grew all (inl c) = let near : i ≤ p = c.0 in absurd (omega arith)
         by m grew all (inr (inl c)) = omega (arith, is, grew, c.1)
         by m grew all (inr (inr c)) = omega (arith, is, grew, c.1)
@@ -437,24 +437,24 @@ above_new old new p n e h run is grown =
 pub parents_grown : (old new places next parents : List ℕ) (p n e node : ℕ) → Nest old
     → slice_get old p ≡ Some n → e ≡ p + 1 + n → Grown old new p e
     → AreParents old places parents → slice_get places node ≡ Some p
-    → ((m : ℕ) → slice_get next m ≡ option_map (raised e) (slice_get places m))
+    → ((m : ℕ) → slice_get next m ≡ option_map (shifted_place e) (slice_get places m))
     → length next ≡ length places → AreParents new (next ++ e ∷ []) (parents ++ node ∷ [])
 parents_grown old new places next parents p n e node h run is grown a came moved long =
     record { above = above; count = omega (arith, length-append next (e ∷ []), length-append parents (node ∷ []), a.count, long) }
   where
     -- where one stands now that came before
-    now : (m j : ℕ) → slice_get places m ≡ Some j → slice_get (next ++ e ∷ []) m ≡ Some (raised e j)
+    now : (m j : ℕ) → slice_get places m ≡ Some j → slice_get (next ++ e ∷ []) m ≡ Some (shifted_place e j)
     now m j at =
-        get_front next (e ∷ []) m (omega (arith, get_within places m j at, long)) ∙ moved m ∙ ap (option_map (raised e)) at
+        get_front next (e ∷ []) m (omega (arith, get_within places m j at, long)) ∙ moved m ∙ ap (option_map (shifted_place e)) at
 
     before : (m k : ℕ) → slice_get next m ≡ Some k
-        → (j : ℕ) × (slice_get places m ≡ Some j) × (raised e j ≡ k)
+        → (j : ℕ) × (slice_get places m ≡ Some j) × (shifted_place e j ≡ k)
     before m k at = by (slice_get places m) refl (sym (moved m) ∙ at)
       where
-        by : (o : Option ℕ) → slice_get places m ≡ o → option_map (raised e) o ≡ Some k
-            → (j : ℕ) × (slice_get places m ≡ Some j) × (raised e j ≡ k)
+        by : (o : Option ℕ) → slice_get places m ≡ o → option_map (shifted_place e) o ≡ Some k
+            → (j : ℕ) × (slice_get places m ≡ Some j) × (shifted_place e j ≡ k)
         by None q r = cc
-        by (Some j) q r = (j, q, one (raised e j) k r)
+        by (Some j) q r = (j, q, one (shifted_place e j) k r)
 
     above : (m q k : ℕ) → slice_get (parents ++ node ∷ []) m ≡ Some q
         → slice_get (next ++ e ∷ []) m ≡ Some k
@@ -467,7 +467,7 @@ parents_grown old new places next parents p n e node h run is grown a came moved
         by (inl s) (inl t) =
             let b = before m k t in
             let u = a.above m q b.0 s b.1 in
-            (raised e u.0, now q u.0 u.1, subst (λ i. IsAbove new i (raised e u.0)) b.2 (above_moved old new p n e b.0 u.0 h run is grown u.2))
+            (shifted_place e u.0, now q u.0 u.1, subst (λ i. IsAbove new i (shifted_place e u.0)) b.2 (above_moved old new p n e b.0 u.0 h run is grown u.2))
         by (inl s) (inr t) =
             let within : m < length parents = get_within parents m q s in
             absurd (omega (arith, t.0, a.count, long))
@@ -475,7 +475,7 @@ parents_grown old new places next parents p n e node h run is grown a came moved
             let within : m < length next = get_within next m k t in
             absurd (omega (arith, s.0, a.count, long))
         by (inr s) (inr t) = (
-          raised e p,
+          shifted_place e p,
           ap (slice_get (next ++ e ∷ [])) (sym s.1) ∙ now node p came,
-          subst (λ i. IsAbove new i (raised e p)) t.1 (subst (IsAbove new e) (sym (raised-front e p (omega (arith, is)))) (above_new old new p n e h run is grown)),
+          subst (λ i. IsAbove new i (shifted_place e p)) t.1 (subst (IsAbove new e) (sym (shifted_place-front e p (omega (arith, is)))) (above_new old new p n e h run is grown)),
         )

@@ -6,7 +6,7 @@ use Rattle.std.proofs.lemmas.Bool.{leb-true, leb-false, le-leb, lt-leb}
 use Rattle.std.proofs.lemmas.List.{append_assoc, length-append, take-append-drop}
 use Rattle.std.specs.List.{position_or_len}
 use Rattle.std.specs.Option.{option_map}
-use Rattle.ticket_rows.specs.Index.{lengthened, runs_of}
+use Rattle.ticket_rows.specs.Index.{longer_run, runs_of}
 
 -- how many are deeper than d, up to the first that isn't
 abbrev pub deeper : ℕ → List ℕ → ℕ
@@ -253,43 +253,43 @@ leb-suc a b = by (leb a b) refl
     by true e = le-leb (suc a) (suc b) (omega (arith, leb-true a b e))
     by false e = lt-leb (suc a) (suc b) (omega (arith, leb-false a b e))
 
-lengthened-suc : (k j n : ℕ) → lengthened (suc k) (suc j) n ≡ lengthened k j n
-lengthened-suc k j n =
+longer_run-suc : (k j n : ℕ) → longer_run (suc k) (suc j) n ≡ longer_run k j n
+longer_run-suc k j n =
     let next : suc j + n ≡ suc (j + n) = omega arith in
     ap (λ i. cond (leb (suc j) (suc k) && leb (suc k) i) (suc n) n) next
     ∙ ap (λ c. cond (c && leb (suc k) (suc (j + n))) (suc n) n) (leb-suc j k) ∙ ap (λ c. cond (leb j k && c) (suc n) n) (leb-suc k (j + n))
 
-lengthened-behind : (k j n : ℕ) → k < j → lengthened k j n ≡ n
-lengthened-behind k j n high = ap (λ c. cond (c && leb k (j + n)) (suc n) n) (lt-leb j k high)
+longer_run-behind : (k j n : ℕ) → k < j → longer_run k j n ≡ n
+longer_run-behind k j n high = ap (λ c. cond (c && leb k (j + n)) (suc n) n) (lt-leb j k high)
 
-lengthened-first : (k n : ℕ) → lengthened k 0 n ≡ grown k n
-lengthened-first k n =
+longer_run-first : (k n : ℕ) → longer_run k 0 n ≡ grown k n
+longer_run-first k n =
     let none : 0 + n ≡ n = omega arith in
     ap (λ c. cond (c && leb k (0 + n)) (suc n) n) (le-leb 0 k (omega arith)) ∙ ap (λ i. cond (leb k i) (suc n) n) none
 
 pub each_lengthened : (old new : List ℕ) (k : ℕ)
-    → ((j : ℕ) → slice_get new j ≡ option_map (lengthened k j) (slice_get old j))
+    → ((j : ℕ) → slice_get new j ≡ option_map (longer_run k j) (slice_get old j))
     → new ≡ with_one k old
 each_lengthened [] [] k at = refl
 each_lengthened [] (n ∷ new) k at = cc (at 0)
 each_lengthened (o ∷ old) [] k at = cc (at 0)
 each_lengthened (o ∷ old) (n ∷ new) zero at =
-    let first : n ≡ lengthened 0 0 o = cc (at 0) in
-    ap (λ z. z ∷ new) (first ∙ lengthened-first 0 o ∙ grown-high 0 o (omega arith))
+    let first : n ≡ longer_run 0 0 o = cc (at 0) in
+    ap (λ z. z ∷ new) (first ∙ longer_run-first 0 o ∙ grown-high 0 o (omega arith))
     ∙ ap (λ zs. suc o ∷ zs) (same_list new old (λ j. at (suc j) ∙ row j (slice_get old j)))
   where
-    row : (j : ℕ) (v : Option ℕ) → option_map (lengthened 0 (suc j)) v ≡ v
+    row : (j : ℕ) (v : Option ℕ) → option_map (longer_run 0 (suc j)) v ≡ v
     row j None = refl
-    row j (Some v) = ap Some (lengthened-behind 0 (suc j) v (omega arith))
+    row j (Some v) = ap Some (longer_run-behind 0 (suc j) v (omega arith))
 each_lengthened (o ∷ old) (n ∷ new) (suc k) at =
-    let first : n ≡ lengthened (suc k) 0 o = cc (at 0) in
-    ap (λ z. z ∷ new) (first ∙ lengthened-first (suc k) o)
+    let first : n ≡ longer_run (suc k) 0 o = cc (at 0) in
+    ap (λ z. z ∷ new) (first ∙ longer_run-first (suc k) o)
     ∙ ap (λ zs. grown (suc k) o ∷ zs) (each_lengthened old new k (λ j. at (suc j) ∙ row j (slice_get old j)))
   where
     row : (j : ℕ) (v : Option ℕ)
-        → option_map (lengthened (suc k) (suc j)) v ≡ option_map (lengthened k j) v
+        → option_map (longer_run (suc k) (suc j)) v ≡ option_map (longer_run k j) v
     row j None = refl
-    row j (Some v) = ap Some (lengthened-suc k j v)
+    row j (Some v) = ap Some (longer_run-suc k j v)
 
 -- the run of the node at a place
 pub run_at : (ds : List ℕ) (k d : ℕ) → slice_get ds k ≡ Some d

@@ -20,7 +20,7 @@ use Rattle.ticket_rows.proofs.RunsGrow.{with_one}
 use Rattle.ticket_rows.specs.ChangedRow.{end_behind}
 use Rattle.ticket_rows.specs.Homes.{home_of, resource_of}
 use Rattle.ticket_rows.specs.Index.{Shape, shape_of, shapes_of, ids_in, node_place, home_place}
-use Rattle.ticket_rows.specs.Index.{pool_place, resource_place, runs_of, lengthened}
+use Rattle.ticket_rows.specs.Index.{longer_run, pool_place, resource_place, runs_of}
 use Rattle.ticket_rows.specs.Ticket.{depths, ids}
 use Rattle.ticket_items.specs.declared.node_row.NodeRow.{NodeRow}
 use Rattle.ticket_items.specs.declared.resource.Resource.{Resource}
@@ -187,7 +187,7 @@ map-insert f (x ∷ xs) (suc i) y = ap (λ ys. f x ∷ ys) (map-insert f xs i y)
 -- the runs of rows with a node more
 pub runs_grow : (rows : List NodeRow) (k : ℕ) (r new : NodeRow) (next : List ℕ)
     → slice_get rows k ≡ Some r → new.depth ≡ suc r.depth
-    → ((j : ℕ) → slice_get next j ≡ option_map (lengthened k j) (slice_get (runs_of (depths rows)) j))
+    → ((j : ℕ) → slice_get next j ≡ option_map (longer_run k j) (slice_get (runs_of (depths rows)) j))
     → insert next (end_behind rows k r) 0 ≡ runs_of (depths (insert rows (end_behind rows k r) new))
 runs_grow rows k r new next at one each =
     let ds : List ℕ = depths rows in

@@ -120,5 +120,5 @@ edited_rows e at rows =
     else with_resource (target e) (resource_after e) rows
 
 -- the ticket after an edit that isn't refused
-abbrev pub edited : Edit → ℕ → Job → Job
-edited e at t = record t { rows = edited_rows e at t.rows }
+abbrev pub job_after_edit : Edit → ℕ → Job → Job
+job_after_edit e at t = record t { rows = edited_rows e at t.rows }

@@ -7,12 +7,12 @@ use Rattle.ticket_items.specs.declared.node_row.NodeRow.{NodeRow}
 use Rattle.ticket_items.specs.declared.resource.Resource.{Resource}
 
 -- the resources of a node's pool, each with the node's id
-abbrev pub homed : NodeRow → List (Resource × List ℕ)
-homed r = map (λ x. (x, r.id)) r.resources
+abbrev pub pool_with_home : NodeRow → List (Resource × List ℕ)
+pool_with_home r = map (λ x. (x, r.id)) r.resources
 
 -- the resources of a ticket with their homes, in ticket order
 abbrev pub homes : List NodeRow → List (Resource × List ℕ)
-homes rows = flat_map homed rows
+homes rows = flat_map pool_with_home rows
 
 -- the resource of an id, with its home
 abbrev pub entry_of : List NodeRow → List ℕ → Option (Resource × List ℕ)

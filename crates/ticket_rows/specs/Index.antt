@@ -108,13 +108,13 @@ pub record IsIndex (rows : List NodeRow) (index : Index) : Type 0 where
 -- ---- what becomes of places and runs with a new row
 
 -- a place, where one more stands at another
-abbrev pub raised : ℕ → ℕ → ℕ
-raised from place = if nat_le from place then suc place else place
+abbrev pub shifted_place : ℕ → ℕ → ℕ
+shifted_place from place = if nat_le from place then suc place else place
 
 -- how many stand below the row at k, with one more below the row at a place: the rows at which that
 -- one stands below are that row, and those in front of it whose run has it
-abbrev pub lengthened : ℕ → ℕ → ℕ → ℕ
-lengthened place k run = if nat_le k place && nat_le place (k + run) then suc run else run
+abbrev pub longer_run : ℕ → ℕ → ℕ → ℕ
+longer_run place k run = if nat_le k place && nat_le place (k + run) then suc run else run
 
 -- an id more in a pool
 abbrev pub with_more : List ℕ → Shape → Shape

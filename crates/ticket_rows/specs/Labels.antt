@@ -29,7 +29,7 @@ pub record Fits (order : List ℕ) (place label : ℕ) : Type 0 where
 
 -- what is told of places: those of the nodes in the order of their coming, and whether there is
 -- room for one more without memory
-pub record Told : Type 0 where
+pub record PlacesView : Type 0 where
   pub items : List ℕ
   pub has_room : Bool
 

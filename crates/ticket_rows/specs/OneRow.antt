@@ -10,8 +10,8 @@ use Rattle.ticket_items.specs.declared.node_row.NodeRow.{NodeRow}
 use Rattle.ticket_items.specs.declared.resource.Resource.{Resource}
 
 -- the rows, with an audit more at a node, behind those that it has
-abbrev pub appended : List ℕ → Audit → List NodeRow → List NodeRow
-appended node audit rows = with_row node (λ r. record r { audits = r.audits ++ audit ∷ [] }) rows
+abbrev pub rows_with_audit : List ℕ → Audit → List NodeRow → List NodeRow
+rows_with_audit node audit rows = with_row node (λ r. record r { audits = r.audits ++ audit ∷ [] }) rows
 
 -- the rows, with a row in the place of the one of its id, as deep as that one
 abbrev pub replaced_node : NodeRow → List NodeRow → List NodeRow

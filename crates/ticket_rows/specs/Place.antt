@@ -48,11 +48,11 @@ abbrev pub resource_thing : Resource → Thing
 resource_thing x = resource x.name x.class
 
 -- a resource by its id and that, and the same of what stands at a place
-abbrev pub fixed : Resource → List ℕ × Thing
-fixed x = (x.id, resource_thing x)
+abbrev pub named_thing : Resource → List ℕ × Thing
+named_thing x = (x.id, resource_thing x)
 
-abbrev pub fixed_at : Place → List ℕ × Thing
-fixed_at p = (p.id, p.thing)
+abbrev pub named_thing_at : Place → List ℕ × Thing
+named_thing_at p = (p.id, p.thing)
 
 abbrev pub node_place : NodeRow → List (List ℕ) → Place
 node_place r path = record { id = r.id; path = path; thing = node_thing r }
@@ -161,12 +161,12 @@ abbrev pub resource_row : Resource → Row
 resource_row x = record { status = x.status; attrs = x.attrs; audits = [] }
 
 -- the rows of a node and of the resources of its pool, by id
-abbrev pub lines_of : NodeRow → List (List ℕ × Row)
-lines_of r = (r.id, node_row r) ∷ map (λ x. (x.id, resource_row x)) r.resources
+abbrev pub rows_by_id_of : NodeRow → List (List ℕ × Row)
+rows_by_id_of r = (r.id, node_row r) ∷ map (λ x. (x.id, resource_row x)) r.resources
 
-abbrev pub lines : List NodeRow → List (List ℕ × Row)
-lines rows = flat_map lines_of rows
+abbrev pub rows_by_id : List NodeRow → List (List ℕ × Row)
+rows_by_id rows = flat_map rows_by_id_of rows
 
 -- the row of an id
 abbrev pub row_in : List NodeRow → List ℕ → Option Row
-row_in rows x = option_map (λ l. l.1) (find (λ l. bytes_eq l.0 x) (lines rows))
+row_in rows x = option_map (λ l. l.1) (find (λ l. bytes_eq l.0 x) (rows_by_id rows))

@@ -77,7 +77,7 @@ impl Index {
                 return Ok(None);
             }
         }
-        let places = Places::counted(alloc, rows.len())?;
+        let places = Places::with_count(alloc, rows.len())?;
         let runs = runs_of(alloc, rows)?;
         let parents = parents_of(alloc, runs.as_slice())?;
         Ok(Some(Index {
@@ -149,7 +149,7 @@ impl Index {
     {
         let end = place + 1 + self.runs[place];
         let row = rows[place].as_ref();
-        let parent = self.came(&row.id);
+        let parent = self.count_before(&row.id);
         self.places.reserve()?;
         self.parents.reserve(1)?;
         self.runs.reserve(1)?;
@@ -168,7 +168,7 @@ impl Index {
     }
 
     /// How many came before the node of an id.
-    fn came(&self, id: &Id) -> usize
+    fn count_before(&self, id: &Id) -> usize
         ensures { (k : ℕ) → option_and_then (node_at self.now.places.items)
             (spot_under self.now.spots id.now) ≡ Some k
             → slice_get self.now.places.items result ≡ Some k }
@@ -202,7 +202,7 @@ impl Index {
         ensures err { OnErr result (IsIndex (contents rows.now) self.new) }
     {
         let row = rows[place].as_ref();
-        let home = self.came(&row.id);
+        let home = self.count_before(&row.id);
         let spot = Spot::InPool {
             home,
             place: row.resources.as_slice().len(),

@@ -68,7 +68,7 @@ impl IndexedRows {
     pub fn rows(&self) -> Rows<'_>
         ensures { result ≡ self.now }
     {
-        Rows::boxed(self.rows.as_slice())
+        Rows::of_boxes(self.rows.as_slice())
     }
 
     /// Where the row of a node stands.

@@ -22,9 +22,9 @@ pub struct Places {
 impl Model for Places {
     ghost use Rattle.std.specs.Prelude.{◌&&◌, length, nat_lt};
     ghost use Rattle.std.specs.Vec.{vec_capacity};
-    ghost use Rattle.ticket_rows.specs.Labels.{AreLabels, Told, places_of};
+    ghost use Rattle.ticket_rows.specs.Labels.{AreLabels, PlacesView, places_of};
 
-    ghost Value = { Told };
+    ghost Value = { PlacesView };
 
     ghost view = { λ a. record {
       items = places_of a.labels.items a.order.items;
@@ -173,11 +173,11 @@ fn even_labels(alloc: Global, count: usize, gap: u64) -> Result<Vec<u64>, AllocE
 impl Places {
     ghost use Rattle.std.specs.Prelude.{◌≡◌, ◌^◌, ◌<◌, ◌≤◌, ◌++◌, ◌∷◌, [], Some, true, IfOk, OnOk};
     ghost use Rattle.std.specs.Prelude.{length, map, slice_get};
-    ghost use Rattle.ticket_rows.specs.Index.{raised};
+    ghost use Rattle.ticket_rows.specs.Index.{shifted_place};
     ghost use Rattle.ticket_rows.specs.Labels.{numbers_below};
 
     /// Those of so many nodes that came in the order in which they stand.
-    pub fn counted(alloc: Global, count: usize) -> Result<Places, AllocError>
+    pub fn with_count(alloc: Global, count: usize) -> Result<Places, AllocError>
         requires { count < 2 ^ 63 }
         ensures { IfOk result (λ places. places.items ≡ numbers_below count) }
     {
@@ -226,7 +226,7 @@ impl Places {
     pub fn insert(&mut self, place: usize)
         requires room { self.old.has_room ≡ true }
         requires within { place ≤ length self.old.items }
-        ensures { self.new.items ≡ map (raised place) self.old.items ++ place ∷ [] }
+        ensures { self.new.items ≡ map (shifted_place place) self.old.items ++ place ∷ [] }
     {
         let label = new_label(self.labels.as_mut_slice(), self.order.as_mut_slice(), place);
         self.labels.push(label).unwrap();

@@ -79,7 +79,7 @@ impl<'a> Rows<'a> {
     }
 
     /// The nodes in these boxes.
-    pub(crate) fn boxed(boxes: &'a [Box<NodeRow>]) -> Rows<'a>
+    pub(crate) fn of_boxes(boxes: &'a [Box<NodeRow>]) -> Rows<'a>
         ensures { result ≡ contents boxes.now }
     {
         Rows {

@@ -4,7 +4,7 @@ ghost use Rattle.std.specs.Prelude.{◌≡◌, ◌<◌, ℕ, Some, IfOk, length,
 ghost use Rattle.std.specs.Option.{option_map};
 ghost use Rattle.std.specs.Vec.{vec_capacity};
 ghost use Rattle.ticket_items.specs.declared.node_row.NodeRow.{NodeRow};
-ghost use Rattle.ticket_rows.specs.Index.{lengthened, runs_of};
+ghost use Rattle.ticket_rows.specs.Index.{longer_run, runs_of};
 ghost use Rattle.ticket_rows.specs.Parents.{AreParents, EachAbove, IsAbove, Nest};
 ghost use Rattle.ticket_rows.specs.Ticket.{depths};
 
@@ -70,7 +70,8 @@ pub fn lengthen(runs: &mut Vec<usize>, places: &Places, parents: &[usize], node:
     ensures len { length runs.new.items ≡ length runs.old.items }
     ensures room { vec_capacity runs.new ≡ vec_capacity runs.old }
     ensures one { (place k : ℕ) → slice_get places.now.items node ≡ Some place
-        → slice_get runs.new.items k ≡ option_map (lengthened place k) (slice_get runs.old.items k) }
+        → slice_get runs.new.items k ≡ option_map (longer_run place k)
+        (slice_get runs.old.items k) }
 {
     let mut parent = parents[node];
     let mut place = places.at(node);

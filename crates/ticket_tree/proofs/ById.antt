@@ -13,8 +13,8 @@ use Rattle.ticket_items.proofs.AtKey.{at_key, at_key-none}
 use Rattle.ticket_rows.specs.Edit.{with_row, with_resource}
 use Rattle.ticket_items.specs.Resource.{with_item}
 use Rattle.ticket_items.specs.Ids.{mem, are_distinct}
-use Rattle.ticket_rows.specs.Place.{Row, node_row, resource_row, lines_of, lines}
-use Rattle.ticket_tree.specs.PlainEdit.{touch}
+use Rattle.ticket_rows.specs.Place.{Row, node_row, resource_row, rows_by_id, rows_by_id_of}
+use Rattle.ticket_tree.specs.PlainEdit.{with_row_changed}
 use Rattle.ticket_rows.specs.Ticket.{ids, node_ids}
 use Rattle.ticket_items.specs.declared.node_row.NodeRow.{NodeRow}
 use Rattle.ticket_items.specs.declared.resource.Resource.{Resource}
@@ -57,7 +57,7 @@ touch_none true g = refl
 touch_none false g = refl
 
 pub row_at-touched : (x : List ℕ) (g : Row → Row) (ls : List Line) (y : List ℕ)
-    → row_at (at_key (λ l. l.0) x (line_with g) ls) y ≡ touch x g (row_at ls) y
+    → row_at (at_key (λ l. l.0) x (line_with g) ls) y ≡ with_row_changed x g (row_at ls) y
 row_at-touched x g [] y = touch_none (bytes_eq x y) g
 row_at-touched x g (l ∷ ls) y =
     let is : Bool = bytes_eq l.0 x in
@@ -160,25 +160,25 @@ abbrev pub pool_lines : List Resource → List Line
 pool_lines pool = map (λ y. (y.id, resource_row y)) pool
 
 node_line : (b : Bool) (f : NodeRow → NodeRow) (g : Row → Row) (r : NodeRow) → ChangesAs f g
-    → lines_of (cond b (f r) r)
+    → rows_by_id_of (cond b (f r) r)
     ≡ cond b (line_with g (r.id, node_row r)) (r.id, node_row r) ∷ pool_lines r.resources
 node_line true f g r alike =
     ap (λ i. (i, node_row (f r)) ∷ pool_lines (f r).resources) (alike.id r) ∙ ap (λ pool. (r.id, node_row (f r)) ∷ pool_lines pool) (alike.pool r) ∙ ap (λ row. (r.id, row) ∷ pool_lines r.resources) (alike.row r)
 node_line false f g r alike = refl
 
-pub lines-with_row : (x : List ℕ) (f : NodeRow → NodeRow) (g : Row → Row) (rows : List NodeRow)
+pub rows_by_id-with_row : (x : List ℕ) (f : NodeRow → NodeRow) (g : Row → Row) (rows : List NodeRow)
     → ChangesAs f g → mem x (resource_ids rows) ≡ false
-    → lines (with_row x f rows) ≡ at_key (λ l. l.0) x (line_with g) (lines rows)
-lines-with_row x f g [] alike out = refl
-lines-with_row x f g (r ∷ rows) alike out =
+    → rows_by_id (with_row x f rows) ≡ at_key (λ l. l.0) x (line_with g) (rows_by_id rows)
+rows_by_id-with_row x f g [] alike out = refl
+rows_by_id-with_row x f g (r ∷ rows) alike out =
     let parts = or_parts (mem x (pool_ids r)) (mem x (resource_ids rows)) (sym (mem-append x (pool_ids r) (resource_ids rows)) ∙ out) in
     let own : at_key (λ l. l.0) x (line_with g) (pool_lines r.resources) ≡ pool_lines r.resources =
     at_key-none (λ l. l.0) x (line_with g) (pool_lines r.resources) (ap (mem x) (keys_of_pool r.resources) ∙ parts.0) in
     let first : Line = cond (bytes_eq r.id x) (line_with g (r.id, node_row r)) (r.id, node_row r) in
-    ap (λ ls. ls ++ lines (with_row x f rows)) (node_line (bytes_eq r.id x) f g r alike)
-    ∙ ap (λ ls. (first ∷ pool_lines r.resources) ++ ls) (lines-with_row x f g rows alike parts.1)
-    ∙ ap (λ ls. (first ∷ ls) ++ at_key (λ l. l.0) x (line_with g) (lines rows)) (sym own)
-    ∙ sym (at_key-append x g (lines_of r) (lines rows))
+    ap (λ ls. ls ++ rows_by_id (with_row x f rows)) (node_line (bytes_eq r.id x) f g r alike)
+    ∙ ap (λ ls. (first ∷ pool_lines r.resources) ++ ls) (rows_by_id-with_row x f g rows alike parts.1)
+    ∙ ap (λ ls. (first ∷ ls) ++ at_key (λ l. l.0) x (line_with g) (rows_by_id rows)) (sym own)
+    ∙ sym (at_key-append x g (rows_by_id_of r) (rows_by_id rows))
 
 -- ---- a change of a resource
 
@@ -197,16 +197,16 @@ lines_of_pool x f g [] id row = refl
 lines_of_pool x f g (y ∷ pool) id row =
     ap (λ l. l ∷ pool_lines (with_item x f pool)) (pool_line (bytes_eq y.id x) f g y (id y) (row y)) ∙ ap (λ ls. cond (bytes_eq y.id x) (line_with g (y.id, resource_row y)) (y.id, resource_row y) ∷ ls) (lines_of_pool x f g pool id row)
 
-pub lines-with_resource : (x : List ℕ) (f : Resource → Resource) (g : Row → Row)
+pub rows_by_id-with_resource : (x : List ℕ) (f : Resource → Resource) (g : Row → Row)
     (rows : List NodeRow)
     → ((y : Resource) → (f y).id ≡ y.id)
     → ((y : Resource) → resource_row (f y) ≡ g (resource_row y)) → mem x (node_ids rows) ≡ false
-    → lines (with_resource x f rows) ≡ at_key (λ l. l.0) x (line_with g) (lines rows)
-lines-with_resource x f g [] id row out = refl
-lines-with_resource x f g (r ∷ rows) id row out =
+    → rows_by_id (with_resource x f rows) ≡ at_key (λ l. l.0) x (line_with g) (rows_by_id rows)
+rows_by_id-with_resource x f g [] id row out = refl
+rows_by_id-with_resource x f g (r ∷ rows) id row out =
     let parts = or_parts (bytes_eq r.id x) (mem x (node_ids rows)) out in
     let own : Line = (r.id, node_row r) in
-    ap (λ ls. (own ∷ ls) ++ lines (with_resource x f rows)) (lines_of_pool x f g r.resources id row)
-    ∙ ap (λ ls. (own ∷ at_key (λ l. l.0) x (line_with g) (pool_lines r.resources)) ++ ls) (lines-with_resource x f g rows id row parts.1)
-    ∙ ap (λ b. (cond b (line_with g own) own ∷ at_key (λ l. l.0) x (line_with g) (pool_lines r.resources)) ++ at_key (λ l. l.0) x (line_with g) (lines rows)) (sym parts.0)
-    ∙ sym (at_key-append x g (lines_of r) (lines rows))
+    ap (λ ls. (own ∷ ls) ++ rows_by_id (with_resource x f rows)) (lines_of_pool x f g r.resources id row)
+    ∙ ap (λ ls. (own ∷ at_key (λ l. l.0) x (line_with g) (pool_lines r.resources)) ++ ls) (rows_by_id-with_resource x f g rows id row parts.1)
+    ∙ ap (λ b. (cond b (line_with g own) own ∷ at_key (λ l. l.0) x (line_with g) (pool_lines r.resources)) ++ at_key (λ l. l.0) x (line_with g) (rows_by_id rows)) (sym parts.0)
+    ∙ sym (at_key-append x g (rows_by_id_of r) (rows_by_id rows))

@@ -16,7 +16,7 @@ use Rattle.ticket_rows.proofs.Below.{mem-node_ids}
 use Rattle.ticket_rows.proofs.ResourcePlaces.{resources_from, resource_places-rows, home_is}
 use Rattle.ticket_rows.specs.Homes.{resource_of}
 use Rattle.ticket_rows.specs.Place.{Place, path_of, node_place, resource_place, Row, node_row}
-use Rattle.ticket_rows.specs.Place.{resource_row, places, is_node, place_at, lines}
+use Rattle.ticket_rows.specs.Place.{is_node, place_at, places, resource_row, rows_by_id}
 use Rattle.ticket_rows.specs.Ticket.{ids, node_ids, row_of}
 use Rattle.ticket_items.specs.declared.node_row.NodeRow.{NodeRow}
 use Rattle.ticket_items.specs.declared.resource.Resource.{Resource}
@@ -128,26 +128,26 @@ row_in_pool x (z ∷ pool) rest y found =
 -- a row whose id isn't the first one's, nor in the first one's pool
 row_later : (s : NodeRow) (rows : List NodeRow) (x : List ℕ) → bytes_eq s.id x ≡ false
     → list_any (λ z. bytes_eq z.id x) s.resources ≡ false
-    → row_at (lines (s ∷ rows)) x ≡ row_at (lines rows) x
+    → row_at (rows_by_id (s ∷ rows)) x ≡ row_at (rows_by_id rows) x
 row_later s rows x other none =
-    line_cond (bytes_eq s.id x) (s.id, node_row s) (find (λ l. bytes_eq l.0 x) (pool_lines s.resources ++ lines rows))
-    ∙ ap (λ b. cond b (Some (node_row s)) (row_at (pool_lines s.resources ++ lines rows) x)) other ∙ row_behind_pool x s.resources (lines rows) none
+    line_cond (bytes_eq s.id x) (s.id, node_row s) (find (λ l. bytes_eq l.0 x) (pool_lines s.resources ++ rows_by_id rows))
+    ∙ ap (λ b. cond b (Some (node_row s)) (row_at (pool_lines s.resources ++ rows_by_id rows) x)) other ∙ row_behind_pool x s.resources (rows_by_id rows) none
 
 node_row_here : (b : Bool) (s : NodeRow) (rows : List NodeRow) (x : List ℕ) (r : NodeRow)
     → bytes_eq s.id x ≡ b → are_distinct (pool_ids s ++ ids rows) ≡ true
     → cond b (Some s) (row_of rows x) ≡ Some r
-    → (row_of rows x ≡ Some r → row_at (lines rows) x ≡ Some (node_row r))
-    → row_at (lines (s ∷ rows)) x ≡ Some (node_row r)
+    → (row_of rows x ≡ Some r → row_at (rows_by_id rows) x ≡ Some (node_row r))
+    → row_at (rows_by_id (s ∷ rows)) x ≡ Some (node_row r)
 node_row_here true s rows x r e apart found go =
-    line_cond (bytes_eq s.id x) (s.id, node_row s) (find (λ l. bytes_eq l.0 x) (pool_lines s.resources ++ lines rows))
-    ∙ ap (λ b. cond b (Some (node_row s)) (row_at (pool_lines s.resources ++ lines rows) x)) e ∙ ap (option_map node_row) found
+    line_cond (bytes_eq s.id x) (s.id, node_row s) (find (λ l. bytes_eq l.0 x) (pool_lines s.resources ++ rows_by_id rows))
+    ∙ ap (λ b. cond b (Some (node_row s)) (row_at (pool_lines s.resources ++ rows_by_id rows) x)) e ∙ ap (option_map node_row) found
 node_row_here false s rows x r e apart found go =
     let there : mem x (node_ids rows) ≡ true = mem-node_ids rows x ∙ ap is_some found in
     let none : list_any (λ z. bytes_eq z.id x) s.resources ≡ false = sym (any-map x s.resources) ∙ first_out x (pool_ids s) (ids rows) apart (among_ids x rows there) in
     row_later s rows x e none ∙ go found
 
 node_row_at : (rows : List NodeRow) (x : List ℕ) (r : NodeRow) → are_distinct (ids rows) ≡ true
-    → row_of rows x ≡ Some r → row_at (lines rows) x ≡ Some (node_row r)
+    → row_of rows x ≡ Some r → row_at (rows_by_id rows) x ≡ Some (node_row r)
 node_row_at [] x r apart found = cc
 node_row_at (s ∷ rows) x r apart found =
     let parts = and_parts _ _ apart in
@@ -180,19 +180,19 @@ resource_among x (s ∷ rows) y found = among_here (list_any (λ z. bytes_eq z.i
 resource_row_here : (b : Bool) (s : NodeRow) (rows : List NodeRow) (x : List ℕ) (y : Resource)
     → list_any (λ z. bytes_eq z.id x) s.resources ≡ b → mem s.id (pool_ids s ++ ids rows) ≡ false
     → cond b (in_pool x s.resources) (resource_of rows x) ≡ Some y
-    → (resource_of rows x ≡ Some y → row_at (lines rows) x ≡ Some (resource_row y))
-    → row_at (lines (s ∷ rows)) x ≡ Some (resource_row y)
+    → (resource_of rows x ≡ Some y → row_at (rows_by_id rows) x ≡ Some (resource_row y))
+    → row_at (rows_by_id (s ∷ rows)) x ≡ Some (resource_row y)
 resource_row_here true s rows x y e alone found go =
     let there : mem x (pool_ids s ++ ids rows) ≡ true = mem-append x (pool_ids s) (ids rows) ∙ ap (λ b. b || mem x (ids rows)) (any-map x s.resources ∙ e) in
-    line_cond (bytes_eq s.id x) (s.id, node_row s) (find (λ l. bytes_eq l.0 x) (pool_lines s.resources ++ lines rows))
-    ∙ ap (λ b. cond b (Some (node_row s)) (row_at (pool_lines s.resources ++ lines rows) x)) (other_one (bytes_eq s.id x) s.id x (pool_ids s ++ ids rows) refl alone there)
-    ∙ row_in_pool x s.resources (lines rows) y found
+    line_cond (bytes_eq s.id x) (s.id, node_row s) (find (λ l. bytes_eq l.0 x) (pool_lines s.resources ++ rows_by_id rows))
+    ∙ ap (λ b. cond b (Some (node_row s)) (row_at (pool_lines s.resources ++ rows_by_id rows) x)) (other_one (bytes_eq s.id x) s.id x (pool_ids s ++ ids rows) refl alone there)
+    ∙ row_in_pool x s.resources (rows_by_id rows) y found
 resource_row_here false s rows x y e alone found go =
     let there : mem x (pool_ids s ++ ids rows) ≡ true = mem-append x (pool_ids s) (ids rows) ∙ ap (λ b. mem x (pool_ids s) || b) (resource_among x rows y found) ∙ or_true (mem x (pool_ids s)) in
     row_later s rows x (other_one (bytes_eq s.id x) s.id x (pool_ids s ++ ids rows) refl alone there) e ∙ go found
 
 resource_row_at : (rows : List NodeRow) (x : List ℕ) (y : Resource) → are_distinct (ids rows) ≡ true
-    → resource_of rows x ≡ Some y → row_at (lines rows) x ≡ Some (resource_row y)
+    → resource_of rows x ≡ Some y → row_at (rows_by_id rows) x ≡ Some (resource_row y)
 resource_row_at [] x y apart found = cc
 resource_row_at (s ∷ rows) x y apart found =
     let parts = and_parts _ _ apart in
@@ -228,7 +228,7 @@ mapped f (Some x) = refl
 
 pub stands_with_row : StandsWithRow
 stands_with_row rows x =
-    stands_somewhere rows x ∙ sym (mapped (λ (l : Line). l.1) (find (λ l. bytes_eq l.0 x) (lines rows)) ∙ is_some-find (λ (l : Line). bytes_eq l.0 x) (lines rows) ∙ any_key (λ (l : Line). l.0) x (lines rows) ∙ ap (mem x) (keys_of_lines rows))
+    stands_somewhere rows x ∙ sym (mapped (λ (l : Line). l.1) (find (λ l. bytes_eq l.0 x) (rows_by_id rows)) ∙ is_some-find (λ (l : Line). bytes_eq l.0 x) (rows_by_id rows) ∙ any_key (λ (l : Line). l.0) x (rows_by_id rows) ∙ ap (mem x) (keys_of_lines rows))
 
 pub path_is_homes : PathIsHomes
 path_is_homes rows valid x p h found held =

@@ -33,7 +33,7 @@ use Rattle.ticket_tree.proofs.OnPlaces.{has_resource-any}
 use Rattle.ticket_tree.proofs.PlainPlaces.{places-with_row, places-with_resource}
 use Rattle.ticket_tree.proofs.PlainRows.{mem-resource_ids, changed_node, changed_resource, known_first, known_only, held_only}
 use Rattle.ticket_tree.specs.Laws.{PartRefusalIsOfOwnRows, PartEditIsValid, PartEditOfPlaces, PartEditOfRows}
-use Rattle.ticket_tree.specs.Part.{Copied, copied}
+use Rattle.ticket_tree.specs.Part.{PartCopy, part_copy}
 use Rattle.ticket_tree.specs.PartView.{own_rows}
 
 -- ---- ids that are apart
@@ -185,7 +185,7 @@ unrefused (Some e) v refused = cc
 pub part_is_left : {A : Type 0} (result : Result A Refusal) (e : Edit) (at : ℕ) (rows new : List NodeRow) (rw copies ro : List Resource) → IsValid (with_copies rows rw ro) → is_structural e ≡ false
     → OnOk result (new ≡ edited_rows e at rows) → OnOk result (copies ≡ edited_copies e rw) → OnErr result (new ≡ rows) → OnErr result (copies ≡ rw) → IfSome (part_refusal e rows rw) (λ x. result ≡ Err x) → IsValid (with_copies new copies ro)
 part_is_left (Ok v) e at rows new rw copies ro valid plain is_new is_copies stay_rows stay_copies refused =
-    subst (λ rs. IsValid (with_copies rs copies ro)) (sym is_new) (subst (λ cs. IsValid (with_copies (edited_rows e at rows) cs ro)) (sym is_copies) (part_edit_is_valid e at (copied [] 0 [] rows rw ro) valid plain (unrefused (part_refusal e rows rw) v refused)))
+    subst (λ rs. IsValid (with_copies rs copies ro)) (sym is_new) (subst (λ cs. IsValid (with_copies (edited_rows e at rows) cs ro)) (sym is_copies) (part_edit_is_valid e at (part_copy [] 0 [] rows rw ro) valid plain (unrefused (part_refusal e rows rw) v refused)))
 part_is_left (Err x) e at rows new rw copies ro valid plain is_new is_copies stay_rows stay_copies refused =
     subst (λ rs. IsValid (with_copies rs copies ro)) (sym stay_rows) (subst (λ cs. IsValid (with_copies rows cs ro)) (sym stay_copies) valid)
 
@@ -216,10 +216,10 @@ own_distinct (r ∷ rows) rw ro valid =
     ap are_distinct (ids-copies r rows rw [] ∙ ap (λ is. is ++ ids rows) (append-nil (ids_of r ++ resource_ids rw))) ∙ middle_out (ids_of r ++ resource_ids rw) (resource_ids ro) (ids rows) all
 
 -- a node that is there is no resource, and a resource no node
-own_node : (p : Copied) (n : List ℕ) → IsValid (with_copies p.rows p.rw p.ro) → has_node p.rows n ≡ true → mem n (pool_ids (own_rows p)) ≡ false
+own_node : (p : PartCopy) (n : List ℕ) → IsValid (with_copies p.rows p.rw p.ro) → has_node p.rows n ≡ true → mem n (pool_ids (own_rows p)) ≡ false
 own_node p n valid known = node_no_resource n (own_rows p) (own_distinct p.rows p.rw p.ro valid) (node_among (own_rows p) n (has_node-copies p.rows p.rw [] n ∙ known))
 
-own_resource : (p : Copied) (x : List ℕ) → IsValid (with_copies p.rows p.rw p.ro) → (has_resource p.rows x || mem x (resource_ids p.rw)) ≡ true → mem x (node_ids (own_rows p)) ≡ false
+own_resource : (p : PartCopy) (x : List ℕ) → IsValid (with_copies p.rows p.rw p.ro) → (has_resource p.rows x || mem x (resource_ids p.rw)) ≡ true → mem x (node_ids (own_rows p)) ≡ false
 own_resource p x valid known =
     resource_no_node x (own_rows p) (own_distinct p.rows p.rw p.ro valid) (mem-resource_ids x (own_rows p) ∙ has_resource-any (own_rows p) x ∙ sym (has_resource-copies p.rows p.rw p.ro x valid) ∙ known)
 

@@ -11,7 +11,7 @@ use Rattle.ticket_items.specs.Ids.{mem, are_distinct}
 use Rattle.ticket_rows.proofs.Below.{Path, Follows, Follows-outline, length-path_of}
 use Rattle.ticket_rows.specs.Place.{Place, Row, Thing, node, resource, path_of, node_place}
 use Rattle.ticket_rows.specs.Place.{resource_place, node_row, resource_row, places, places_from}
-use Rattle.ticket_rows.specs.Place.{lines, row_in}
+use Rattle.ticket_rows.specs.Place.{row_in, rows_by_id}
 use Rattle.ticket_rows.specs.Ticket.{IsValid}
 use Rattle.ticket_items.specs.declared.node_row.NodeRow.{NodeRow}
 use Rattle.ticket_items.specs.declared.resource.Resource.{Resource}
@@ -129,17 +129,17 @@ pool_lined f path [] ls ps es own go = go
 pool_lined f path (x ∷ xs) ls ps es own go =
     same_row (resource_place path x) (resource_row x) (f x.id) (map (piece path) xs ++ es) (map (with_row f) (map (resource_place path) xs ++ ps)) own.0 (pool_lined f path xs ls ps es own.1 go)
 
-lined : (f : List ℕ → Option Row) (before : Path) (rows : List NodeRow) → OwnLines f (lines rows)
+lined : (f : List ℕ → Option Row) (before : Path) (rows : List NodeRow) → OwnLines f (rows_by_id rows)
     → pieces_from before rows ≡ map (with_row f) (places_from before rows)
 lined f before [] own = refl
 lined f before (r ∷ rows) own =
     let path = path_of before r in
     same_row (node_place r path) _ (f r.id) (map (piece path) r.resources ++ pieces_from path rows) (map (with_row f) (map (resource_place path) r.resources ++ places_from path rows)) own.0
-    (pool_lined f path r.resources (lines rows) (places_from path rows) (pieces_from path rows) own.1 (lined f path rows (later_lines f r.resources (lines rows) own.1)))
+    (pool_lined f path r.resources (rows_by_id rows) (places_from path rows) (pieces_from path rows) own.1 (lined f path rows (later_lines f r.resources (rows_by_id rows) own.1)))
 
 pub pieces_are : (rows : List NodeRow) → IsValid rows
     → pieces_from [] rows ≡ map (with_row (row_in rows)) (places rows)
-pieces_are rows valid = lined (row_in rows) [] rows (own_lines (row_in rows) (lines rows) (λ y w found. found) (ap are_distinct (keys_of_lines rows) ∙ valid.distinct))
+pieces_are rows valid = lined (row_in rows) [] rows (own_lines (row_in rows) (rows_by_id rows) (λ y w found. found) (ap are_distinct (keys_of_lines rows) ∙ valid.distinct))
 
 -- ---- the whole
 

@@ -25,7 +25,7 @@ use Rattle.ticket_tree.specs.Laws.{AppendOfPlaces, AppendOfRows, ReplacedNodeOfP
 use Rattle.ticket_tree.specs.Laws.{ReplacedNodeOfRows, ReplacedResourceOfPlaces}
 use Rattle.ticket_tree.specs.Laws.{ReplacedResourceOfRows, names_of}
 use Rattle.ticket_rows.specs.Place.{Thing, node, resource, links_of, Row, node_place}
-use Rattle.ticket_rows.specs.Place.{resource_place, resource_row, places, lines_of, lines, row_in}
+use Rattle.ticket_rows.specs.Place.{places, resource_place, resource_row, row_in, rows_by_id, rows_by_id_of}
 use Rattle.ticket_tree.specs.PlainEdit.{or_row}
 use Rattle.ticket_rows.specs.Ticket.{ids, ids_of, row_of}
 use Rattle.ticket_items.specs.declared.node_row.NodeRow.{NodeRow}
@@ -181,8 +181,8 @@ is_some-row_at : (ls : List Line) (y : List ℕ) → is_some (row_at ls y) ≡ m
 is_some-row_at [] y = refl
 is_some-row_at (l ∷ ls) y = ap is_some (line_cond (bytes_eq l.0 y) l (find (λ k. bytes_eq k.0 y) ls)) ∙ some_at (bytes_eq l.0 y) (mem y (map (λ k. k.0) ls)) l.1 (row_at ls y) (is_some-row_at ls y)
 
-is_some-lines_of : (r : NodeRow) (y : List ℕ) → is_some (row_at (lines_of r) y) ≡ mem y (ids_of r)
-is_some-lines_of r y = is_some-row_at (lines_of r) y ∙ ap (λ is. mem y (r.id ∷ is)) (keys_of_pool r.resources)
+is_some-rows_by_id_of : (r : NodeRow) (y : List ℕ) → is_some (row_at (rows_by_id_of r) y) ≡ mem y (ids_of r)
+is_some-rows_by_id_of r y = is_some-row_at (rows_by_id_of r) y ∙ ap (λ is. mem y (r.id ∷ is)) (keys_of_pool r.resources)
 
 hides : (own old rest : Option Row) → is_some own ≡ is_some old
     → or_row own rest ≡ or_row own (or_row old rest)
@@ -220,31 +220,31 @@ replaced_here : (b : Bool) (x y : List ℕ) (row r old : NodeRow) (rows : List N
     → ids_of row ≡ ids_of old
     → (row_of rows x ≡ Some old
     → row_in (with_row x (λ s. record row { depth = s.depth }) rows) y ≡ or_row (row_at
-    (lines_of row) y) (row_in rows y))
+    (rows_by_id_of row) y) (row_in rows y))
     → row_in
     (cond b (record row { depth = r.depth }) r
     ∷ with_row x (λ s. record row { depth = s.depth }) rows) y
-    ≡ or_row (row_at (lines_of row) y) (row_in (r ∷ rows) y)
+    ≡ or_row (row_at (rows_by_id_of row) y) (row_in (r ∷ rows) y)
 replaced_here true x y row r old rows e found apart alone same later =
     let here : r ≡ old = cc in
     let f : NodeRow → NodeRow = λ s. record row { depth = s.depth } in
     let out : mem x (map (λ s. s.id) rows) ≡ false = ap (λ i. mem i (map (λ s. s.id) rows)) (sym ((bytes_eq-Decides r.id x).0 e)) ∙ alone in
-    ap (λ rs. row_at (lines_of row ++ lines rs) y) (at_key-none (λ s. s.id) x f rows out) ∙ row_at-append (lines_of row) (lines rows) y
-    ∙ hides (row_at (lines_of row) y) (row_at (lines_of r) y) (row_in rows y) (is_some-lines_of row y ∙ ap (mem y) (same ∙ ap ids_of (sym here)) ∙ sym (is_some-lines_of r y))
-    ∙ ap (or_row (row_at (lines_of row) y)) (sym (row_at-append (lines_of r) (lines rows) y))
+    ap (λ rs. row_at (rows_by_id_of row ++ rows_by_id rs) y) (at_key-none (λ s. s.id) x f rows out) ∙ row_at-append (rows_by_id_of row) (rows_by_id rows) y
+    ∙ hides (row_at (rows_by_id_of row) y) (row_at (rows_by_id_of r) y) (row_in rows y) (is_some-rows_by_id_of row y ∙ ap (mem y) (same ∙ ap ids_of (sym here)) ∙ sym (is_some-rows_by_id_of r y))
+    ∙ ap (or_row (row_at (rows_by_id_of row) y)) (sym (row_at-append (rows_by_id_of r) (rows_by_id rows) y))
 replaced_here false x y row r old rows e found apart alone same later =
-    row_at-append (lines_of r) (lines (with_row x (λ s. record row { depth = s.depth }) rows)) y
-    ∙ ap (or_row (row_at (lines_of r) y)) (later found)
-    ∙ swaps (row_at (lines_of r) y) (row_at (lines_of row) y) (row_in rows y)
-    (λ here. is_some-lines_of row y
-    ∙ not_both (mem y (ids_of r)) (mem y (ids_of row)) (mem y (ids rows)) (λ there. other_part y (ids_of r) (ids rows) apart there) (λ there. among x y old rows found (ap (mem y) (sym same) ∙ there)) (sym (is_some-lines_of r y) ∙ here))
-    ∙ ap (or_row (row_at (lines_of row) y)) (sym (row_at-append (lines_of r) (lines rows) y))
+    row_at-append (rows_by_id_of r) (rows_by_id (with_row x (λ s. record row { depth = s.depth }) rows)) y
+    ∙ ap (or_row (row_at (rows_by_id_of r) y)) (later found)
+    ∙ swaps (row_at (rows_by_id_of r) y) (row_at (rows_by_id_of row) y) (row_in rows y)
+    (λ here. is_some-rows_by_id_of row y
+    ∙ not_both (mem y (ids_of r)) (mem y (ids_of row)) (mem y (ids rows)) (λ there. other_part y (ids_of r) (ids rows) apart there) (λ there. among x y old rows found (ap (mem y) (sym same) ∙ there)) (sym (is_some-rows_by_id_of r y) ∙ here))
+    ∙ ap (or_row (row_at (rows_by_id_of row) y)) (sym (row_at-append (rows_by_id_of r) (rows_by_id rows) y))
 
 replaced_from : (x y : List ℕ) (row old : NodeRow) (rows : List NodeRow) → row_of rows x ≡ Some old
     → are_distinct (ids rows) ≡ true → are_distinct (map (λ s. s.id) rows) ≡ true
     → ids_of row ≡ ids_of old
     → row_in (with_row x (λ s. record row { depth = s.depth }) rows) y
-    ≡ or_row (row_at (lines_of row) y) (row_in rows y)
+    ≡ or_row (row_at (rows_by_id_of row) y) (row_in rows y)
 replaced_from x y row old [] found apart nodes same = cc
 replaced_from x y row old (r ∷ rows) found apart nodes same =
     let parts = and_parts _ _ nodes in
@@ -266,4 +266,4 @@ row_of-id (r ∷ rows) x old found = named_id (bytes_eq r.id x) x r old (row_of 
 pub replaced_node_of_rows : ReplacedNodeOfRows
 replaced_node_of_rows row rows valid may y =
     let same : ids_of row ≡ ids_of may.old = ap (λ i. i ∷ map (λ x. x.id) row.resources) (sym (row_of-id rows row.id may.old may.there)) ∙ ap (λ is. may.old.id ∷ is) may.resources in
-    replaced_from row.id y row may.old rows may.there valid.distinct (node_ids_distinct rows valid.distinct) same ∙ ap (λ ls. or_row (row_at ls y) (row_in rows y)) (sym (append-nil (lines_of row)))
+    replaced_from row.id y row may.old rows may.there valid.distinct (node_ids_distinct rows valid.distinct) same ∙ ap (λ ls. or_row (row_at ls y) (row_in rows y)) (sym (append-nil (rows_by_id_of row)))

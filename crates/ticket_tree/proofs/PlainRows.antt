@@ -13,7 +13,7 @@ use Rattle.ticket_rows.proofs.AtHome.{holds, any-map}
 use Rattle.ticket_items.proofs.AtKey.{at_key-none}
 use Rattle.ticket_tree.proofs.ById.{Line, row_at, line_cond, keys_of_pool, row_at-touched, pool_ids}
 use Rattle.ticket_tree.proofs.ById.{resource_ids, node_no_resource, resource_no_node, ChangesAs}
-use Rattle.ticket_tree.proofs.ById.{lines-with_row, lines-with_resource}
+use Rattle.ticket_tree.proofs.ById.{rows_by_id-with_resource, rows_by_id-with_row}
 use Rattle.ticket_rows.proofs.Growing.{add_link, kept_here}
 use Rattle.ticket_rows.proofs.NewNode.{has_child, child_walk, walked_child}
 use Rattle.ticket_rows.proofs.NewResource.{add_resource}
@@ -25,8 +25,8 @@ use Rattle.ticket_rows.specs.Edit.{with_row, with_resource, bare_row, refusal_of
 use Rattle.ticket_rows.specs.Homes.{has_resource}
 use Rattle.ticket_items.specs.Ids.{mem, are_distinct}
 use Rattle.ticket_tree.specs.Laws.{EditOfRows}
-use Rattle.ticket_rows.specs.Place.{Row, node_row, resource_row, lines_of, lines, row_in}
-use Rattle.ticket_tree.specs.PlainEdit.{touch, with_line}
+use Rattle.ticket_rows.specs.Place.{Row, node_row, resource_row, row_in, rows_by_id, rows_by_id_of}
+use Rattle.ticket_tree.specs.PlainEdit.{with_line, with_row_changed}
 use Rattle.ticket_rows.specs.Ticket.{IsValid, has_node, ids, ids_of, node_ids, is_reserved, unless}
 use Rattle.ticket_rows.specs.Ticket.{first_of}
 use Rattle.ticket_items.specs.declared.audit.Audit.TheVariants.{Notification}
@@ -59,10 +59,10 @@ row_at-grown (m ∷ front) l back y out =
     ∙ ap (λ o. cond (bytes_eq l.0 y) (Some l.1) o) (sym (line_cond (bytes_eq m.0 y) m (find (λ k. bytes_eq k.0 y) (front ++ back))))
 
 -- the lines have the ids of the rows
-pub keys_of_lines : (rows : List NodeRow) → map (λ l. l.0) (lines rows) ≡ ids rows
+pub keys_of_lines : (rows : List NodeRow) → map (λ l. l.0) (rows_by_id rows) ≡ ids rows
 keys_of_lines [] = refl
 keys_of_lines (r ∷ rows) =
-    map-append (λ l. l.0) (lines_of r) (lines rows) ∙ ap (λ is. (r.id ∷ is) ++ map (λ l. l.0) (lines rows)) (keys_of_pool r.resources) ∙ ap (λ is. ids_of r ++ is) (keys_of_lines rows)
+    map-append (λ l. l.0) (rows_by_id_of r) (rows_by_id rows) ∙ ap (λ is. (r.id ∷ is) ++ map (λ l. l.0) (rows_by_id rows)) (keys_of_pool r.resources) ∙ ap (λ is. ids_of r ++ is) (keys_of_lines rows)
 
 grown : (old new : List Line) (l : Line) (front back : List Line) (y : List ℕ) → old ≡ front ++ back
     → new ≡ front ++ l ∷ back → mem l.0 (map (λ k. k.0) old) ≡ false
@@ -78,25 +78,25 @@ LinesGrow l old new = (front : List Line) × (back : List Line) × (old ≡ fron
 grow_row : (b : Bool) (n : List ℕ) (x : Resource) (r : NodeRow) (rows : List NodeRow)
     → bytes_eq r.id n ≡ b → mem r.id (node_ids rows) ≡ false → (b || mem n (node_ids rows)) ≡ true
     → (mem n (node_ids rows) ≡ true
-    → LinesGrow (x.id, resource_row x) (lines rows) (lines (with_row n (add_resource x) rows)))
-    → LinesGrow (x.id, resource_row x) (lines (r ∷ rows))
-    (lines_of (cond b (add_resource x r) r) ++ lines (with_row n (add_resource x) rows))
+    → LinesGrow (x.id, resource_row x) (rows_by_id rows) (rows_by_id (with_row n (add_resource x) rows)))
+    → LinesGrow (x.id, resource_row x) (rows_by_id (r ∷ rows))
+    (rows_by_id_of (cond b (add_resource x r) r) ++ rows_by_id (with_row n (add_resource x) rows))
 grow_row true n x r rows e alone there go =
     let named : r.id ≡ n = (bytes_eq-Decides r.id n).0 e in
     let same : with_row n (add_resource x) rows ≡ rows = at_key-none (λ s. s.id) n (add_resource x) rows (ap (λ y. mem y (node_ids rows)) (sym named) ∙ alone) in (
-      lines_of r,
-      lines rows,
+      rows_by_id_of r,
+      rows_by_id rows,
       refl,
-      ap (λ rs. lines_of (add_resource x r) ++ lines rs) same ∙ ap (λ ls. ((r.id, node_row r) ∷ ls) ++ lines rows) (map-append (λ (y : Resource). (y.id, resource_row y)) r.resources (x ∷ []))
-          ∙ append_assoc (lines_of r) ((x.id, resource_row x) ∷ []) (lines rows),
+      ap (λ rs. rows_by_id_of (add_resource x r) ++ rows_by_id rs) same ∙ ap (λ ls. ((r.id, node_row r) ∷ ls) ++ rows_by_id rows) (map-append (λ (y : Resource). (y.id, resource_row y)) r.resources (x ∷ []))
+          ∙ append_assoc (rows_by_id_of r) ((x.id, resource_row x) ∷ []) (rows_by_id rows),
     )
 grow_row false n x r rows e alone there go =
     let h = go there in
-    (lines_of r ++ h.0, h.1, ap (λ ls. lines_of r ++ ls) h.2 ∙ sym (append_assoc (lines_of r) h.0 h.1), ap (λ ls. lines_of r ++ ls) h.3 ∙ sym (append_assoc (lines_of r) h.0 ((x.id, resource_row x) ∷ h.1)))
+    (rows_by_id_of r ++ h.0, h.1, ap (λ ls. rows_by_id_of r ++ ls) h.2 ∙ sym (append_assoc (rows_by_id_of r) h.0 h.1), ap (λ ls. rows_by_id_of r ++ ls) h.3 ∙ sym (append_assoc (rows_by_id_of r) h.0 ((x.id, resource_row x) ∷ h.1)))
 
 resource_grows : (n : List ℕ) (x : Resource) (rows : List NodeRow)
     → are_distinct (node_ids rows) ≡ true → mem n (node_ids rows) ≡ true
-    → LinesGrow (x.id, resource_row x) (lines rows) (lines (with_row n (add_resource x) rows))
+    → LinesGrow (x.id, resource_row x) (rows_by_id rows) (rows_by_id (with_row n (add_resource x) rows))
 resource_grows n x [] apart there = absurd (true≢false (sym there))
 resource_grows n x (r ∷ rows) apart there =
     let parts = and_parts _ _ apart in
@@ -105,19 +105,19 @@ resource_grows n x (r ∷ rows) apart there =
 -- ---- a new node
 
 node_grows : (x id kind job_part status : List ℕ) (rows : List NodeRow) → has_node rows x ≡ true
-    → LinesGrow (id, record { status = status; attrs = []; audits = [] }) (lines rows)
-    (lines (child_walk x (bare_row id kind job_part status) rows))
+    → LinesGrow (id, record { status = status; attrs = []; audits = [] }) (rows_by_id rows)
+    (rows_by_id (child_walk x (bare_row id kind job_part status) rows))
 node_grows x id kind job_part status rows there =
     let h = has_child x (bare_row id kind job_part status) rows there in
     let n : NodeRow = bare_row id kind job_part status (suc h.0.depth) in
-    (lines h.2.0, lines h.2.1, ap lines h.2.2 ∙ flat_map-append lines_of h.2.0 h.2.1, ap lines h.2.3 ∙ flat_map-append lines_of h.2.0 (n ∷ h.2.1))
+    (rows_by_id h.2.0, rows_by_id h.2.1, ap rows_by_id h.2.2 ∙ flat_map-append rows_by_id_of h.2.0 h.2.1, ap rows_by_id h.2.3 ∙ flat_map-append rows_by_id_of h.2.0 (n ∷ h.2.1))
 
 -- ---- a new link
 
 link_lines : (n : List ℕ) (rows : List NodeRow) (f : NodeRow → NodeRow)
-    → ((r : NodeRow) → lines_of (f r) ≡ lines_of r) → lines (with_row n f rows) ≡ lines rows
+    → ((r : NodeRow) → rows_by_id_of (f r) ≡ rows_by_id_of r) → rows_by_id (with_row n f rows) ≡ rows_by_id rows
 link_lines n [] f same = refl
-link_lines n (r ∷ rows) f same = ap (λ ls. ls ++ lines (with_row n f rows)) (kept_here (bytes_eq r.id n) lines_of f r (same r)) ∙ ap (λ ls. lines_of r ++ ls) (link_lines n rows f same)
+link_lines n (r ∷ rows) f same = ap (λ ls. ls ++ rows_by_id (with_row n f rows)) (kept_here (bytes_eq r.id n) rows_by_id_of f r (same r)) ∙ ap (λ ls. rows_by_id_of r ++ ls) (link_lines n rows f same)
 
 touch_nothing : (b : Bool) (o : Option Row) → o ≡ cond b (option_map (λ r. r) o) o
 touch_nothing true None = refl
@@ -170,15 +170,15 @@ link_known rows node link none = known_of_three (has_node rows node) (has_resour
 pub changed_node : (x : List ℕ) (f : NodeRow → NodeRow) (g : Row → Row) (rows : List NodeRow)
     (y : List ℕ)
     → ChangesAs f g → mem x (resource_ids rows) ≡ false
-    → row_in (with_row x f rows) y ≡ touch x g (row_in rows) y
-changed_node x f g rows y alike out = ap (λ ls. row_at ls y) (lines-with_row x f g rows alike out) ∙ row_at-touched x g (lines rows) y
+    → row_in (with_row x f rows) y ≡ with_row_changed x g (row_in rows) y
+changed_node x f g rows y alike out = ap (λ ls. row_at ls y) (rows_by_id-with_row x f g rows alike out) ∙ row_at-touched x g (rows_by_id rows) y
 
 pub changed_resource : (x : List ℕ) (f : Resource → Resource) (g : Row → Row) (rows : List NodeRow)
     (y : List ℕ)
     → ((z : Resource) → (f z).id ≡ z.id)
     → ((z : Resource) → resource_row (f z) ≡ g (resource_row z)) → mem x (node_ids rows) ≡ false
-    → row_in (with_resource x f rows) y ≡ touch x g (row_in rows) y
-changed_resource x f g rows y id row out = ap (λ ls. row_at ls y) (lines-with_resource x f g rows id row out) ∙ row_at-touched x g (lines rows) y
+    → row_in (with_resource x f rows) y ≡ with_row_changed x g (row_in rows) y
+changed_resource x f g rows y id row out = ap (λ ls. row_at ls y) (rows_by_id-with_resource x f g rows id row out) ∙ row_at-touched x g (rows_by_id rows) y
 
 pub edit_of_rows : EditOfRows
 edit_of_rows (SetStatus n status) at rows valid free y =
@@ -197,9 +197,9 @@ edit_of_rows (AddNode n id kind job_part status) at rows valid free y =
     let fit = child_new rows n id status free in
     let h = node_grows n id kind job_part status rows fit.0 in
     ap (λ rs. row_in rs y) (walked_child n (bare_row id kind job_part status) rows valid fit.0)
-    ∙ grown (lines rows) (lines (child_walk n (bare_row id kind job_part status) rows)) (id, record { status = status; attrs = []; audits = [] }) h.0 h.1 y h.2 h.3 (ap (mem id) (keys_of_lines rows) ∙ fit.2)
+    ∙ grown (rows_by_id rows) (rows_by_id (child_walk n (bare_row id kind job_part status) rows)) (id, record { status = status; attrs = []; audits = [] }) h.0 h.1 y h.2 h.3 (ap (mem id) (keys_of_lines rows) ∙ fit.2)
 edit_of_rows (AddResource n x) at rows valid free y =
     let h = resource_grows n x rows (node_ids_distinct rows valid.distinct) (node_among rows n (resource_known rows n x free)) in
-    grown (lines rows) (lines (with_row n (add_resource x) rows)) (x.id, resource_row x) h.0 h.1 y h.2 h.3 (ap (mem x.id) (keys_of_lines rows) ∙ resource_new rows n x free)
+    grown (rows_by_id rows) (rows_by_id (with_row n (add_resource x) rows)) (x.id, resource_row x) h.0 h.1 y h.2 h.3 (ap (mem x.id) (keys_of_lines rows) ∙ resource_new rows n x free)
 edit_of_rows (AddLink n link) at rows valid free y =
     ap (λ ls. row_at ls y) (link_lines n rows (add_link link) (λ r. refl)) ∙ touch_nothing (bytes_eq n y) (row_in rows y)

@@ -9,8 +9,8 @@ use Rattle.ticket_rows.specs.Edit.{refusal_of, edited_rows, bare_row}
 use Rattle.ticket_items.specs.declared.edit.Edit.TheVariants.{SetStatus, SetResStatus, Note}
 use Rattle.ticket_items.specs.declared.edit.Edit.TheVariants.{AddNode, AddLink}
 use Rattle.ticket_rows.specs.Homes.{home_of}
-use Rattle.ticket_rows.specs.OneRow.{appended, replaced_node, replaced_resource}
-use Rattle.ticket_tree.specs.Part.{copied, is_sound}
+use Rattle.ticket_rows.specs.OneRow.{replaced_node, replaced_resource, rows_with_audit}
+use Rattle.ticket_tree.specs.Part.{is_sound, part_copy}
 use Rattle.ticket_rows.specs.Copies.{with_copies}
 use Rattle.ticket_items.specs.SpawnId.{spawn_of}
 use Rattle.ticket_items.specs.declared.ancestor.Ancestor.{Ancestor}
@@ -184,7 +184,7 @@ paper = item (codes "r1") (codes "Media") ∷ []
 part_valid : fault_of (with_copies (printing ∷ []) sheets paper) ≡ None
 part_valid = refl
 
-part_sound : is_sound (copied (codes "J1") 1 above (printing ∷ []) sheets paper) ≡ true
+part_sound : is_sound (part_copy (codes "J1") 1 above (printing ∷ []) sheets paper) ≡ true
 part_sound = refl
 
 -- its row once more, below itself
@@ -196,17 +196,17 @@ row_twice = refl
 no_paper : fault_of (with_copies (printing ∷ []) sheets []) ≡ Some UnresolvedLink
 no_paper = refl
 
-from_nowhere : is_sound (copied (codes "J1") 1 [] (printing ∷ []) sheets paper) ≡ false
+from_nowhere : is_sound (part_copy (codes "J1") 1 [] (printing ∷ []) sheets paper) ≡ false
 from_nowhere = refl
 
 below_itself : is_sound
-    (copied (codes "J1") 1 (record { node_id = codes "n1"; job_part = codes "p0" } ∷ [])
+    (part_copy (codes "J1") 1 (record { node_id = codes "n1"; job_part = codes "p0" } ∷ [])
     (printing ∷ []) sheets paper)
     ≡ false
 below_itself = refl
 
 unlinked : is_sound
-    (copied (codes "J1") 1 above (printing ∷ []) (sheets ++ item (codes "r3") (codes "Ink") ∷ []) paper)
+    (part_copy (codes "J1") 1 above (printing ∷ []) (sheets ++ item (codes "r3") (codes "Ink") ∷ []) paper)
     ≡ false
 unlinked = refl
 
@@ -237,7 +237,7 @@ spawn_small = refl
 
 -- the audit stands last
 audited : map (λ r. r.audits)
-    (appended (codes "n1") (Notification 8 (codes "dried"))
+    (rows_with_audit (codes "n1") (Notification 8 (codes "dried"))
     (edited_rows (Note (codes "n1") (codes "washed up")) 7 product))
     ≡ [] ∷ (Notification 7 (codes "washed up") ∷ Notification 8 (codes "dried") ∷ []) ∷ [] ∷ []
 audited = refl

@@ -5,7 +5,8 @@ use Rattle.std.specs.Option.{option_map, option_map_or}
 use Rattle.std.specs.Str.{bytes_eq}
 use Rattle.ticket_rows.specs.Homes.{has_resource, home_of, resource_of}
 use Rattle.ticket_items.specs.Ids.{mem}
-use Rattle.ticket_rows.specs.OneRow.{MayReplaceNode, MayReplaceResource, appended, replaced_node}
+use Rattle.ticket_rows.specs.OneRow.{MayReplaceNode, MayReplaceResource, replaced_node}
+use Rattle.ticket_rows.specs.OneRow.{rows_with_audit}
 use Rattle.ticket_rows.specs.OneRow.{replaced_resource}
 use Rattle.ticket_rows.specs.Place.{Place, is_node, node_place, node_places, node_row}
 use Rattle.ticket_rows.specs.Place.{resource_place, resource_places, resource_row, places, place_at}
@@ -13,10 +14,10 @@ use Rattle.ticket_rows.specs.Place.{home, home_at, is_below, preorder, row_in}
 use Rattle.ticket_rows.specs.Copies.{with_copies}
 use Rattle.ticket_items.specs.Edit.{is_structural, target}
 use Rattle.ticket_rows.specs.Edit.{refusal_of, edited_rows}
-use Rattle.ticket_tree.specs.Part.{Copied, edited_part, refusal_of_part}
+use Rattle.ticket_tree.specs.Part.{PartCopy, edited_part, refusal_of_part}
 use Rattle.ticket_tree.specs.PartView.{own_rows, part_row}
 use Rattle.ticket_tree.specs.PlainEdit.{plain_refusal, plain_changed, plain_places, plain_rows}
-use Rattle.ticket_tree.specs.PlainEdit.{touch, or_row}
+use Rattle.ticket_tree.specs.PlainEdit.{or_row, with_row_changed}
 use Rattle.ticket_items.specs.declared.audit.Audit.{Audit}
 use Rattle.ticket_items.specs.declared.edit.Edit.{Edit}
 use Rattle.ticket_rows.specs.Place as tree
@@ -91,15 +92,15 @@ EditOfRows =
 abbrev pub AppendOfPlaces : Type 0
 AppendOfPlaces =
     (n : List ℕ) (audit : Audit) (rows : List NodeRow)
-    → places (appended n audit rows) ≡ places rows
+    → places (rows_with_audit n audit rows) ≡ places rows
 
 -- and changes the row of that node alone
 abbrev pub AppendOfRows : Type 0
 AppendOfRows =
     (n : List ℕ) (audit : Audit) (rows : List NodeRow) → IsValid rows → has_node rows n ≡ true
     → (y : List ℕ)
-    → row_in (appended n audit rows) y
-    ≡ touch n (λ r. record r { audits = r.audits ++ audit ∷ [] }) (row_in rows) y
+    → row_in (rows_with_audit n audit rows) y
+    ≡ with_row_changed n (λ r. record r { audits = r.audits ++ audit ∷ [] }) (row_in rows) y
 
 -- the names and Classes of resources
 abbrev pub names_of : List Resource → List (List ℕ × List ℕ)
@@ -130,7 +131,7 @@ abbrev pub ReplacedResourceOfRows : Type 0
 ReplacedResourceOfRows =
     (x : Resource) (rows : List NodeRow) → IsValid rows → has_resource rows x.id ≡ true
     → (y : List ℕ)
-    → row_in (replaced_resource x rows) y ≡ touch x.id (λ _. resource_row x) (row_in rows) y
+    → row_in (replaced_resource x rows) y ≡ with_row_changed x.id (λ _. resource_row x) (row_in rows) y
 
 -- ---- changes leave a ticket
 
@@ -144,7 +145,7 @@ EditIsValid =
 abbrev pub AppendIsValid : Type 0
 AppendIsValid =
     (n : List ℕ) (audit : Audit) (rows : List NodeRow) → IsValid rows
-    → IsValid (appended n audit rows)
+    → IsValid (rows_with_audit n audit rows)
 
 -- and a node, or a resource, in the place of another
 abbrev pub ReplacedNodeIsValid : Type 0
@@ -231,27 +232,27 @@ PlacesAndRowsDetermine =
 -- be changed
 abbrev pub PartRefusalIsOfOwnRows : Type 0
 PartRefusalIsOfOwnRows =
-    (e : Edit) (p : Copied) → IsValid (with_copies p.rows p.rw p.ro) → is_structural e ≡ false
+    (e : Edit) (p : PartCopy) → IsValid (with_copies p.rows p.rw p.ro) → is_structural e ≡ false
     → refusal_of_part e p ≡ refusal_of e (own_rows p)
 
 -- it leaves a part
 abbrev pub PartEditIsValid : Type 0
 PartEditIsValid =
-    (e : Edit) (at : ℕ) (p : Copied) → IsValid (with_copies p.rows p.rw p.ro)
+    (e : Edit) (at : ℕ) (p : PartCopy) → IsValid (with_copies p.rows p.rw p.ro)
     → is_structural e ≡ false → refusal_of_part e p ≡ None
     → IsValid (with_copies (edited_part e at p).rows (edited_part e at p).rw p.ro)
 
 -- it moves nothing
 abbrev pub PartEditOfPlaces : Type 0
 PartEditOfPlaces =
-    (e : Edit) (at : ℕ) (p : Copied) → IsValid (with_copies p.rows p.rw p.ro)
+    (e : Edit) (at : ℕ) (p : PartCopy) → IsValid (with_copies p.rows p.rw p.ro)
     → is_structural e ≡ false → refusal_of_part e p ≡ None
     → places (own_rows (edited_part e at p)) ≡ places (own_rows p)
 
 -- and changes one row, as on the plain ticket
 abbrev pub PartEditOfRows : Type 0
 PartEditOfRows =
-    (e : Edit) (at : ℕ) (p : Copied) → IsValid (with_copies p.rows p.rw p.ro)
+    (e : Edit) (at : ℕ) (p : PartCopy) → IsValid (with_copies p.rows p.rw p.ro)
     → is_structural e ≡ false → refusal_of_part e p ≡ None
     → (y : List ℕ)
-    → part_row (edited_part e at p) y ≡ touch (target e) (plain_changed e at) (part_row p) y
+    → part_row (edited_part e at p) y ≡ with_row_changed (target e) (plain_changed e at) (part_row p) y

@@ -17,7 +17,7 @@ use Rattle.ticket_items.specs.declared.resource.Resource.{Resource}
 
 -- what was copied out of a ticket: for which job and spawn, from under which nodes, the rows in
 -- preorder, and the resources that may be changed and those that may be read alone
-pub record Copied : Type 0 where
+pub record PartCopy : Type 0 where
   pub job_id : List ℕ
   pub spawn_id : ℕ
   pub ancestors : List Ancestor
@@ -25,9 +25,9 @@ pub record Copied : Type 0 where
   pub rw : List Resource
   pub ro : List Resource
 
-abbrev pub copied : List ℕ → ℕ → List Ancestor → List NodeRow → List Resource → List Resource
-    → Copied
-copied job_id spawn_id ancestors rows rw ro =
+abbrev pub part_copy : List ℕ → ℕ → List Ancestor → List NodeRow → List Resource → List Resource
+    → PartCopy
+part_copy job_id spawn_id ancestors rows rw ro =
     record {
       job_id = job_id;
       spawn_id = spawn_id;
@@ -40,11 +40,11 @@ copied job_id spawn_id ancestors rows rw ro =
 -- ---- edits that aren't structural
 
 -- why an edit is refused, if it is
-abbrev pub refusal_of_part : Edit → Copied → Option Refusal
+abbrev pub refusal_of_part : Edit → PartCopy → Option Refusal
 refusal_of_part e p = part_refusal e p.rows p.rw
 
 -- the part after an edit at a time that isn't refused
-abbrev pub edited_part : Edit → ℕ → Copied → Copied
+abbrev pub edited_part : Edit → ℕ → PartCopy → PartCopy
 edited_part e at p = record p { rows = edited_rows e at p.rows; rw = edited_copies e p.rw }
 
 -- ---- what makes a part sound
@@ -83,7 +83,7 @@ are_linked rows pool = list_all (λ x. is_linked rows x.id) pool
 
 -- whether a part can have come from a ticket: it has ancestors, its nodes aren't too deep below
 -- them, their ids are new, and each copy is linked
-abbrev pub is_sound : Copied → Bool
+abbrev pub is_sound : PartCopy → Bool
 is_sound p =
     has_ancestors p.ancestors && are_shallow_below (length p.ancestors) p.rows
     && are_ancestors_new p.ancestors (part_ids p.rows p.rw p.ro) && are_linked p.rows p.rw

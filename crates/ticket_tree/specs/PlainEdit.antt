@@ -87,8 +87,8 @@ plain_changed (Note n text) at r = record r { audits = r.audits ++ Notification 
 plain_changed e at r = r
 
 -- the rows by id, with f of the row of one id
-abbrev pub touch : List ℕ → (Row → Row) → (List ℕ → Option Row) → List ℕ → Option Row
-touch x f rows y = if bytes_eq x y then option_map f (rows y) else rows y
+abbrev pub with_row_changed : List ℕ → (Row → Row) → (List ℕ → Option Row) → List ℕ → Option Row
+with_row_changed x f rows y = if bytes_eq x y then option_map f (rows y) else rows y
 
 -- the rows by id, with one more
 abbrev pub with_line : List ℕ → Row → (List ℕ → Option Row) → List ℕ → Option Row
@@ -102,4 +102,4 @@ abbrev pub plain_rows : Edit → ℕ → (List ℕ → Option Row) → List ℕ 
 plain_rows (AddNode n id kind job_part status) at rows =
     with_line id (record { status = status; attrs = []; audits = [] }) rows
 plain_rows (AddResource n x) at rows = with_line x.id (resource_row x) rows
-plain_rows e at rows = touch (target e) (plain_changed e at) rows
+plain_rows e at rows = with_row_changed (target e) (plain_changed e at) rows

@@ -28,11 +28,11 @@ pub struct Part {
 }
 
 impl Model for Part {
-    ghost use Rattle.ticket_tree.specs.Part.{Copied};
+    ghost use Rattle.ticket_tree.specs.Part.{PartCopy};
     ghost use Rattle.ticket_rows.specs.Copies.{with_copies};
     ghost use Rattle.ticket_rows.specs.Ticket.{IsValid};
 
-    ghost Value = { Copied };
+    ghost Value = { PartCopy };
 
     ghost view = { λ a. record {
       job_id = a.job;
@@ -102,8 +102,8 @@ impl Part {
         ro: Resources,
     ) -> Result<Part, Refusal>
         // Proved: A part is made just of rows that are valid with its copies.
-        // By `ok`, `valid`, `err`; `Part::known`.
-        ensures ok { IfOk result (λ p. p ≡ part.copied job spawn_id ancestors rows.items rw ro) }
+        // By `ok`, `valid`, `err`; `Part::from_valid`.
+        ensures ok { IfOk result (λ p. p ≡ part.part_copy job spawn_id ancestors rows.items rw ro) }
         ensures valid { OnOk result (IsValid (with_copies rows.items rw ro)) }
         ensures err { IfErr result
             (λ e. (e ≡ Refusal.Memory) ⊎ (fault_of (with_copies rows.items rw ro) ≡ Some e)) }
@@ -113,11 +113,11 @@ impl Part {
             → result ≡ Err Refusal.ReservedStatus }
     {
         check_rows(alloc, rows.as_slice(), rw.as_slice(), ro.as_slice())?;
-        Ok(Part::known(job, spawn_id, ancestors, rows, rw, ro))
+        Ok(Part::from_valid(job, spawn_id, ancestors, rows, rw, ro))
     }
 
     /// The same of nodes that are known to be valid with these copies.
-    pub fn known(
+    pub fn from_valid(
         job: Name,
         spawn_id: SpawnId,
         ancestors: Ancestors,
@@ -127,7 +127,7 @@ impl Part {
     ) -> Part
         // Wants: rows that are valid with the copies.
         requires { IsValid (with_copies rows.items rw ro) }
-        ensures { result ≡ part.copied job spawn_id ancestors rows.items rw ro }
+        ensures { result ≡ part.part_copy job spawn_id ancestors rows.items rw ro }
     {
         Part {
             job,

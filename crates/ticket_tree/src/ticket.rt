@@ -28,10 +28,10 @@ impl Ticket {
     ghost use Rattle.std.specs.Prelude.{IfNone, IfSome, IsOk, MatchResult, is_some};
     ghost use Rattle.std.specs.Option.{option_copied};
     ghost use Rattle.ticket_items.specs.Edit.{grows};
-    ghost use Rattle.ticket_rows.specs.Edit.{edited, node_refusal, refusal_of};
+    ghost use Rattle.ticket_rows.specs.Edit.{job_after_edit, node_refusal, refusal_of};
     ghost use Rattle.ticket_rows.specs.Homes as homes;
     ghost use Rattle.ticket_rows.specs.Homes.{resource_of};
-    ghost use Rattle.ticket_rows.specs.OneRow.{MayReplaceNode, MayReplaceResource, appended};
+    ghost use Rattle.ticket_rows.specs.OneRow.{MayReplaceNode, MayReplaceResource, rows_with_audit};
     ghost use Rattle.ticket_rows.specs.OneRow.{replaced_node, replaced_resource};
     ghost use Rattle.ticket_rows.specs.Place.{BoundsNodesBelow, node_places};
     ghost use Rattle.ticket_rows.specs.Place as tree;
@@ -176,7 +176,7 @@ impl Ticket {
     pub fn apply(&mut self, alloc: Global, edit: Edit, at: u64) -> Result<(), Refusal>
         // Proved: Each edit does just what it says.
         // By `ok`, `err`.
-        ensures ok { OnOk result (self.new ≡ edited edit at self.old) }
+        ensures ok { OnOk result (self.new ≡ job_after_edit edit at self.old) }
         ensures err { OnErr result (self.new ≡ self.old) }
         // Proved: An edit is refused for the first reason that holds, without memory.
         // By `refused`, `memory`; `Ticket::check`.
@@ -197,7 +197,7 @@ impl Ticket {
         // Proved: An audit goes last at its node, and nothing else changes.
         // By `ok`, `err`, `refused`, `memory`.
         ensures ok { OnOk result (self.new
-            ≡ record self.old { rows = appended node.now audit self.old.rows }) }
+            ≡ record self.old { rows = rows_with_audit node.now audit self.old.rows }) }
         ensures err { OnErr result (self.new ≡ self.old) }
         ensures refused { IfSome (node_refusal node.now self.old.rows) (λ e. result ≡ Err e) }
         ensures memory { IfNone (node_refusal node.now self.old.rows)

@@ -7,7 +7,7 @@ use Rattle.std.proofs.lemmas.Bool.{eqb-true, true≢false}
 use Rattle.std.specs.Prelude.{◌==◌, ◌&&◌}
 use Rattle.worker_core.specs.Messages.{aborted_entry}
 use Rattle.worker_core.specs.Orders.{finished_entry}
-use Rattle.worker_core.specs.Worker.{IsKeptEntry, closed_entry, closed_in, entry_of, is_closed, is_closed_stage, is_declined, is_declined_stage, is_ended, is_ended_stage, is_open, is_open_stage, keeps_part, told_in, told_of_stage, with_entry}
+use Rattle.worker_core.specs.Worker.{IsKeptEntry, closed_entry, closed_entry_in, entry_of, is_closed, is_closed_stage, is_declined, is_declined_stage, is_ended, is_ended_stage, is_open, is_open_stage, keeps_part, response_in, response_of_stage, with_entry}
 use Rattle.worker_core.specs.declared.end.End.TheVariants.{Aborted}
 use Rattle.worker_core.specs.declared.entry.Entry.{Entry}
 use Rattle.worker_core.specs.declared.stage.Stage.{Stage}
@@ -15,7 +15,7 @@ use Rattle.worker_core.specs.declared.stage.Stage.TheVariants.{Open, Done, Close
 
 -- ---- one entry
 
-number_in : (stage : Stage) (e : Entry) → (closed_in stage e).spawn_id ≡ e.spawn_id
+number_in : (stage : Stage) (e : Entry) → (closed_entry_in stage e).spawn_id ≡ e.spawn_id
 number_in Open e = refl
 number_in (Done how) e = refl
 number_in (Closed how) e = refl
@@ -24,7 +24,7 @@ number_in Declined e = refl
 pub closed_number : (e : Entry) → (closed_entry e).spawn_id ≡ e.spawn_id
 closed_number e = number_in e.phase e
 
-open_in : (stage : Stage) (e : Entry) → e.phase ≡ stage → is_open (closed_in stage e) ≡ is_open e
+open_in : (stage : Stage) (e : Entry) → e.phase ≡ stage → is_open (closed_entry_in stage e) ≡ is_open e
 open_in Open e is = refl
 open_in (Done how) e is = sym (ap is_open_stage is)
 open_in (Closed how) e is = refl
@@ -33,13 +33,13 @@ open_in Declined e is = refl
 pub closed_open : (e : Entry) → is_open (closed_entry e) ≡ is_open e
 closed_open e = open_in e.phase e refl
 
-told_of_in : (stage : Stage) (e : Entry) → e.phase ≡ stage → told_of_stage (closed_in stage e).phase ≡ told_of_stage e.phase
+told_of_in : (stage : Stage) (e : Entry) → e.phase ≡ stage → response_of_stage (closed_entry_in stage e).phase ≡ response_of_stage e.phase
 told_of_in Open e is = refl
-told_of_in (Done how) e is = sym (ap told_of_stage is)
+told_of_in (Done how) e is = sym (ap response_of_stage is)
 told_of_in (Closed how) e is = refl
 told_of_in Declined e is = refl
 
-kept_in : (stage : Stage) (e : Entry) → IsKeptEntry e → IsKeptEntry (closed_in stage e)
+kept_in : (stage : Stage) (e : Entry) → IsKeptEntry e → IsKeptEntry (closed_entry_in stage e)
 kept_in Open e kept = kept
 kept_in (Done how) e kept = record { held = refl; part = tt }
 kept_in (Closed how) e kept = kept
@@ -48,10 +48,10 @@ kept_in Declined e kept = kept
 pub closed_kept : (e : Entry) → IsKeptEntry e → IsKeptEntry (closed_entry e)
 closed_kept e kept = kept_in e.phase e kept
 
-pub closed_told : (e : Entry) → told_of_stage (closed_entry e).phase ≡ told_of_stage e.phase
+pub closed_told : (e : Entry) → response_of_stage (closed_entry e).phase ≡ response_of_stage e.phase
 closed_told e = told_of_in e.phase e refl
 
-ended_in : (stage : Stage) (e : Entry) → e.phase ≡ stage → is_ended (closed_in stage e) ≡ is_ended e
+ended_in : (stage : Stage) (e : Entry) → e.phase ≡ stage → is_ended (closed_entry_in stage e) ≡ is_ended e
 ended_in Open e is = refl
 ended_in (Done how) e is = sym (ap is_ended_stage is)
 ended_in (Closed how) e is = refl
@@ -60,7 +60,7 @@ ended_in Declined e is = refl
 pub closed_ended : (e : Entry) → is_ended (closed_entry e) ≡ is_ended e
 closed_ended e = ended_in e.phase e refl
 
-declined_in : (stage : Stage) (e : Entry) → is_declined_stage stage ≡ true → closed_in stage e ≡ e
+declined_in : (stage : Stage) (e : Entry) → is_declined_stage stage ≡ true → closed_entry_in stage e ≡ e
 declined_in Open e is = refl
 declined_in (Done how) e is = absurd (true≢false (sym is))
 declined_in (Closed how) e is = refl
@@ -152,14 +152,14 @@ aborted_is_shut at e = aborted_if (is_open e) at e refl
 
 -- ---- among entries
 
-told_mapped : (found : Option Entry) → option_map_or (λ e. told_of_stage e.phase) (option_map closed_entry found) (Ok queue.Running) ≡ option_map_or (λ e. told_of_stage e.phase) found (Ok queue.Running)
+told_mapped : (found : Option Entry) → option_map_or (λ e. response_of_stage e.phase) (option_map closed_entry found) (Ok queue.Running) ≡ option_map_or (λ e. response_of_stage e.phase) found (Ok queue.Running)
 told_mapped None = refl
 told_mapped (Some e) = told_of_in e.phase e refl
 
 -- what a command of it is told is what it was
-pub told_closed : (s : ℕ) (entries : List Entry) → told_in (with_entry s closed_entry entries) s ≡ told_in entries s
+pub told_closed : (s : ℕ) (entries : List Entry) → response_in (with_entry s closed_entry entries) s ≡ response_in entries s
 told_closed s entries =
-    ap (λ o. option_map_or (λ (e : Entry). told_of_stage e.phase) o (Ok queue.Running)) (find-at_number (λ (e : Entry). e.spawn_id) s closed_entry entries closed_number) ∙ told_mapped (entry_of entries s)
+    ap (λ o. option_map_or (λ (e : Entry). response_of_stage e.phase) o (Ok queue.Running)) (find-at_number (λ (e : Entry). e.spawn_id) s closed_entry entries closed_number) ∙ told_mapped (entry_of entries s)
 
 -- an entry is found as it was, or closed
 pub found_closed : (ok same : Bool) (t : ℕ) (entries : List Entry) (s : ℕ) (e : Entry) → (t == s) ≡ same → entry_of entries s ≡ Some e → entry_of (cond ok (with_entry t closed_entry entries) entries) s ≡ Some (cond (same && ok) (closed_entry e) e)

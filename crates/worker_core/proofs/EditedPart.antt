@@ -19,8 +19,8 @@ use Rattle.ticket_rows.specs.Copies.{with_copies}
 use Rattle.ticket_items.specs.Edit.{is_structural}
 use Rattle.ticket_rows.specs.Edit.{edited_rows}
 use Rattle.ticket_rows.specs.Ticket.{IsValid, first_of, has_node, ids, ids_of, is_reserved, max_depth, unless}
-use Rattle.ticket_tree.specs.Part.{Copied, are_ancestors_new, are_linked, are_shallow_below, edited_part, has_ancestors, is_linked, is_sound, refusal_of_part}
-use Rattle.worker_core.specs.Orders.{ending}
+use Rattle.ticket_tree.specs.Part.{PartCopy, are_ancestors_new, are_linked, are_shallow_below, edited_part, has_ancestors, is_linked, is_sound, refusal_of_part}
+use Rattle.worker_core.specs.Orders.{end_edit}
 use Rattle.worker_core.specs.Worker.{end_word, root_status}
 use Rattle.worker_core.specs.declared.end.End.{End}
 use Rattle.worker_core.specs.declared.end.End.TheVariants.{Completed, Aborted}
@@ -55,7 +55,7 @@ pool_linked g rows new old keeps same =
     linked_ids (map g rows) new ∙ ap (list_all (is_linked (map g rows))) same ∙ all_linked-kept g rows (resource_ids old) keeps ∙ sym (linked_ids rows old)
 
 -- a part stays sound
-sound-kept : (g : NodeRow → NodeRow) (p : Copied) (rw : List Resource) → KeepsTicket g → resource_ids rw ≡ resource_ids p.rw → is_sound (record p { rows = map g p.rows; rw = rw }) ≡ is_sound p
+sound-kept : (g : NodeRow → NodeRow) (p : PartCopy) (rw : List Resource) → KeepsTicket g → resource_ids rw ≡ resource_ids p.rw → is_sound (record p { rows = map g p.rows; rw = rw }) ≡ is_sound p
 sound-kept g p rw keeps same =
     let rows = map g p.rows in
     let above = has_ancestors p.ancestors in
@@ -76,7 +76,7 @@ copies-kept x f (y ∷ pool) keeps = ap (λ i. i ∷ resource_ids (with_item x f
     same true = keeps y
     same false = refl
 
-pub edited_sound : (e : Edit) (at : ℕ) (p : Copied) → is_structural e ≡ false → refusal_of_part e p ≡ None → is_sound (edited_part e at p) ≡ is_sound p
+pub edited_sound : (e : Edit) (at : ℕ) (p : PartCopy) → is_structural e ≡ false → refusal_of_part e p ≡ None → is_sound (edited_part e at p) ≡ is_sound p
 edited_sound (SetStatus n status) at p plain free =
     sound-kept _ p p.rw (keeps-at_id n (λ r. record r { status = status }) (keeps-SetStatus status (status_free p.rows n status free))) refl
 edited_sound (SetAttr n name value) at p plain free =
@@ -106,7 +106,7 @@ word_free Completed = refl
 word_free Aborted = refl
 
 -- an end isn't refused
-pub ending_free : (p : Copied) (how : End) → IsValid (with_copies p.rows p.rw p.ro) → refusal_of_part (ending p how) p ≡ None
+pub ending_free : (p : PartCopy) (how : End) → IsValid (with_copies p.rows p.rw p.ro) → refusal_of_part (end_edit p how) p ≡ None
 ending_free p how valid =
     ap (λ b. first_of (unless b UnknownNode ∷ unless (not (is_reserved (end_word how))) ReservedStatus ∷ [])) (first_known p.rows p.rw p.ro valid)
     ∙ ap (λ b. first_of (None ∷ unless (not b) ReservedStatus ∷ [])) (word_free how)
@@ -117,5 +117,5 @@ first_ended [] rw ro word at valid = absurd (true≢false (sym valid.tree))
 first_ended (r ∷ rows) rw ro word at valid = ap (λ b. (cond b (record r { status = word }) r).status) (itself r.id)
 
 -- the node has the Status of the end
-pub root_ended : (p : Copied) (how : End) (at : ℕ) → IsValid (with_copies p.rows p.rw p.ro) → bytes_eq (root_status (edited_part (ending p how) at p)) (end_word how) ≡ true
+pub root_ended : (p : PartCopy) (how : End) (at : ℕ) → IsValid (with_copies p.rows p.rw p.ro) → bytes_eq (root_status (edited_part (end_edit p how) at p)) (end_word how) ≡ true
 root_ended p how at valid = ap (λ s. bytes_eq s (end_word how)) (first_ended p.rows p.rw p.ro (end_word how) at valid) ∙ itself (end_word how)

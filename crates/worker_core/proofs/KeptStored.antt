@@ -8,7 +8,7 @@ use Rattle.std.proofs.lemmas.List.Folds.{list_any-append}
 use Rattle.std.specs.List.{All, list_all}
 use Rattle.std.specs.Str.{bytes_eq}
 use Rattle.ticket_items.proofs.Apart.{or_true}
-use Rattle.ticket_tree.specs.Part.{Copied, is_sound}
+use Rattle.ticket_tree.specs.Part.{PartCopy, is_sound}
 use Rattle.worker_core.proofs.Kept.{number_of}
 use Rattle.worker_core.specs.Numbers.{are_distinct_numbers, has_number}
 use Rattle.worker_core.specs.Stored.{AKeptWorkerIsStored, is_entry, is_part_of}
@@ -17,11 +17,11 @@ use Rattle.worker_core.specs.declared.entry.Entry.{Entry}
 
 -- ---- entries
 
-part_passes : (e : Entry) (p : Copied) → IsKeptPart e p → is_part_of e p ≡ true
+part_passes : (e : Entry) (p : PartCopy) → IsKeptPart e p → is_part_of e p ≡ true
 part_passes e p kept =
     and_from ((p.spawn_id == e.spawn_id) && is_sound p) (has_ended_so e.phase p) (and_from (p.spawn_id == e.spawn_id) (is_sound p) (eq-eqb p.spawn_id e.spawn_id kept.own) kept.sound) kept.ended
 
-held_passes : (o : Option Copied) (e : Entry) → is_some o ≡ keeps_part e.phase → IfSome o (IsKeptPart e) → option_map_or (λ p. keeps_part e.phase && is_part_of e p) o (not (keeps_part e.phase)) ≡ true
+held_passes : (o : Option PartCopy) (e : Entry) → is_some o ≡ keeps_part e.phase → IfSome o (IsKeptPart e) → option_map_or (λ p. keeps_part e.phase && is_part_of e p) o (not (keeps_part e.phase)) ≡ true
 held_passes None e held kept = sym (ap not held)
 held_passes (Some p) e held kept = and_from (keeps_part e.phase) (is_part_of e p) (sym held) (part_passes e p kept)
 

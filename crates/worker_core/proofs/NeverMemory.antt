@@ -10,10 +10,10 @@ use Rattle.ticket_items.specs.Edit.{is_structural}
 use Rattle.ticket_rows.specs.EditRefusal.{later_refusal}
 use Rattle.ticket_rows.specs.PartEdit.{part_lookups}
 use Rattle.ticket_rows.specs.Ticket.{first_of, unless}
-use Rattle.ticket_tree.specs.Part.{Copied}
+use Rattle.ticket_tree.specs.Part.{PartCopy}
 use Rattle.controller.proofs.Answered.{is_idle, replies_so}
 use Rattle.controller.proofs.NeverMemory.{IsOther, later, other, test}
-use Rattle.controller.specs.Step.{refused}
+use Rattle.controller.specs.Step.{refused_step}
 use Rattle.worker_core.specs.Orders as worker_orders
 use Rattle.worker_core.specs.Worker as worker
 use Rattle.worker_core.specs.declared.entry.Entry.{Entry}
@@ -27,7 +27,7 @@ works true true false h isnt = other refusals.ReadOnly refl
 works true true true (Some e) isnt = isnt
 works true true true None isnt = tt
 
-edits : (edit : Edit) (o : Option Copied) → IsOther (option_map_or (worker_orders.part_edit_refusal edit) o (Some refusals.NotOpen))
+edits : (edit : Edit) (o : Option PartCopy) → IsOther (option_map_or (worker_orders.part_edit_refusal edit) o (Some refusals.NotOpen))
 edits edit None = other refusals.NotOpen refl
 edits edit (Some p) =
     works (not (is_structural edit)) (worker_orders.is_here edit p || worker_orders.is_to_read edit p) (not (worker_orders.is_to_read edit p)) (later_refusal edit (part_lookups p.rows p.rw)) (later edit (part_lookups p.rows p.rw))
@@ -56,19 +56,19 @@ found : (o : worker_order.Order) (e : Option Entry) → IsOther (option_map_or (
 found o None = other refusals.UnknownEntry refl
 found o (Some e) = in_entry o e
 
-pub never_memory : (o : worker_order.Order) (w : worker.Known) → IsOther (worker_orders.order_refusal o w.entries)
+pub never_memory : (o : worker_order.Order) (w : worker.State) → IsOther (worker_orders.order_refusal o w.entries)
 never_memory o w = found o (worker.entry_of w.entries (worker_orders.spawn_of_order o))
 
 -- ---- what a step tells of a refusal
 
 -- what isn't refused is done
-done : (o : worker_order.Order) (at' : ℕ) (w : worker.Known) (P : Refusal → Type 0) → IfErr (worker_orders.ordered o at' w).reply P
+done : (o : worker_order.Order) (at' : ℕ) (w : worker.State) (P : Refusal → Type 0) → IfErr (worker_orders.allowed_step o at' w).reply P
 done (to_worker.Edit s e) at' w P = tt
 done (to_worker.Finish s how) at' w P = tt
 done (to_worker.Resend s) at' w P = tt
 
-pub order_known : (o : worker_order.Order) (at' : ℕ) (w : worker.Known) → IfErr (worker_orders.order_step o at' w).reply (λ e. e ≢ Memory)
-order_known o at' w = replies_so (worker_orders.order_refusal o w.entries) w (worker_orders.ordered o at' w) (λ e. e ≢ Memory) (done o at' w _) (never_memory o w)
+pub order_known : (o : worker_order.Order) (at' : ℕ) (w : worker.State) → IfErr (worker_orders.order_step o at' w).reply (λ e. e ≢ Memory)
+order_known o at' w = replies_so (worker_orders.order_refusal o w.entries) w (worker_orders.allowed_step o at' w) (λ e. e ≢ Memory) (done o at' w _) (never_memory o w)
 
-pub order_idle : (o : worker_order.Order) (at' : ℕ) (w : worker.Known) → IfErr (worker_orders.order_step o at' w).reply (λ e. worker_orders.order_step o at' w ≡ refused e w)
-order_idle o at' w = is_idle (worker_orders.order_refusal o w.entries) w (worker_orders.ordered o at' w) (done o at' w _)
+pub order_idle : (o : worker_order.Order) (at' : ℕ) (w : worker.State) → IfErr (worker_orders.order_step o at' w).reply (λ e. worker_orders.order_step o at' w ≡ refused_step e w)
+order_idle o at' w = is_idle (worker_orders.order_refusal o w.entries) w (worker_orders.allowed_step o at' w) (done o at' w _)

@@ -21,9 +21,9 @@ use Rattle.ticket_rows.specs.Place.{Row}
 use Rattle.ticket_rows.specs.Ticket.{IsValid, has_node, ids, unless}
 use Rattle.ticket_tree.proofs.OnPlaces.{has_resource-any}
 use Rattle.ticket_tree.proofs.PartEdits.{part_edit_of_places, part_edit_of_rows}
-use Rattle.ticket_tree.specs.Part.{Copied, edited_part, refusal_of_part}
+use Rattle.ticket_tree.specs.Part.{PartCopy, edited_part, refusal_of_part}
 use Rattle.ticket_tree.specs.PartView.{part_row}
-use Rattle.ticket_tree.specs.PlainEdit.{plain_changed, touch}
+use Rattle.ticket_tree.specs.PlainEdit.{plain_changed, with_row_changed}
 use Rattle.controller.specs.Step.{Step, unless_refused}
 use Rattle.controller.specs.declared.message.Message.{Message}
 use Rattle.worker_core.proofs.AtNumber.{find-at_number, find-other, found_holds}
@@ -32,8 +32,8 @@ use Rattle.worker_core.proofs.EditedPart.{ending_free, first_known}
 use Rattle.worker_core.proofs.Kept.{kept_part, number_of}
 use Rattle.worker_core.proofs.Refusals.{done_free, done_order, edit_free, of_open, open_free, ordered_on, refused_on}
 use Rattle.worker_core.specs.Laws.{EditIsOfHeld, IsNext, IsNextPart, MayChangeIsHeld, OrderKeepsEntries, ResentIsSame, ReturnIsOfEntry}
-use Rattle.worker_core.specs.Orders.{edit_refusal, edited_entry, ended_part, ending, finished_entry, is_here, order_refusal, order_step, ordered, return_of, spawn_of_order}
-use Rattle.worker_core.specs.Worker.{IsKept, IsKeptEntry, Known, entry_of, has, is_ended, is_of, is_open_stage, may_change, open_part, root_id, with_entry}
+use Rattle.worker_core.specs.Orders.{allowed_step, edit_refusal, edited_entry, end_edit, ended_part, finished_entry, is_here, order_refusal, order_step, return_of, spawn_of_order}
+use Rattle.worker_core.specs.Worker.{IsConsistent, IsKeptEntry, State, entry_of, has, is_ended, is_of, is_open_stage, may_change, open_part, root_id, with_entry}
 use Rattle.worker_core.specs.declared.end.End.{End}
 use Rattle.worker_core.specs.declared.entry.Entry.{Entry}
 use Rattle.worker_core.specs.declared.order.Order.{Order}
@@ -51,9 +51,9 @@ open_stage Declined e = absurd (true≢false (sym e))
 
 -- an entry through which something may be changed, and its part
 abbrev pub HeldIn : Option Entry → List ℕ → Type 0
-HeldIn found x = (e : Entry) × (p : Copied) × (found ≡ Some e) × (e.phase ≡ Open) × (e.part ≡ Some p) × (has p x ≡ true)
+HeldIn found x = (e : Entry) × (p : PartCopy) × (found ≡ Some e) × (e.phase ≡ Open) × (e.part ≡ Some p) × (has p x ≡ true)
 
-held_by : (o : Option Copied) (e : Entry) (x : List ℕ) → open_part e ≡ o → option_map_or (λ p. has p x) o false ≡ true → HeldIn (Some e) x
+held_by : (o : Option PartCopy) (e : Entry) (x : List ℕ) → open_part e ≡ o → option_map_or (λ p. has p x) o false ≡ true → HeldIn (Some e) x
 held_by None e x is may = absurd (true≢false (sym may))
 held_by (Some p) e x is may = let of = of_open e p is in (e, p, refl, open_stage e.phase of.0, of.1, may)
 
@@ -94,7 +94,7 @@ either_stands false true c e go = refl
 either_stands false false c e go = e
 
 -- what an edit changes that is here, the part has
-here_has : (e : Edit) (p : Copied) → is_structural e ≡ false → is_here e p ≡ true → has p (target e) ≡ true
+here_has : (e : Edit) (p : PartCopy) → is_structural e ≡ false → is_here e p ≡ true → has p (target e) ≡ true
 here_has (SetStatus n status) p plain here = or_left _ _ (node_stands p.rows n here)
 here_has (SetAttr n name value) p plain here = or_left _ _ (node_stands p.rows n here)
 here_has (SetResStatus x status) p plain here = either_stands (has_resource p.rows x) _ (mem x (resource_ids p.rw)) here (resource_stands p.rows x)
@@ -105,7 +105,7 @@ here_has (AddResource n x) p plain here = absurd (true≢false plain)
 here_has (AddLink n link) p plain here = absurd (true≢false plain)
 
 -- what an open entry has may be changed
-pub may_change_here : (entries : List Entry) (s : ℕ) (x : List ℕ) (e : Entry) (p : Copied) → entry_of entries s ≡ Some e → open_part e ≡ Some p → has p x ≡ true → may_change entries s x ≡ true
+pub may_change_here : (entries : List Entry) (s : ℕ) (x : List ℕ) (e : Entry) (p : PartCopy) → entry_of entries s ≡ Some e → open_part e ≡ Some p → has p x ≡ true → may_change entries s x ≡ true
 may_change_here entries s x e p found opened there =
     ap (λ o. option_map_or (λ q. has q x) (option_and_then open_part o) false) found ∙ ap (λ o. option_map_or (λ q. has q x) o false) opened ∙ there
 
@@ -126,12 +126,12 @@ unchanged entries s e =
       finished = λ done. refl;
     }
 
-untouched : (b : Bool) (n : List ℕ) (f : Row → Row) (rows : List ℕ → Option Row) (y : List ℕ) → bytes_eq n y ≡ b → (b ≡ true → ⊥) → touch n f rows y ≡ rows y
+untouched : (b : Bool) (n : List ℕ) (f : Row → Row) (rows : List ℕ → Option Row) (y : List ℕ) → bytes_eq n y ≡ b → (b ≡ true → ⊥) → with_row_changed n f rows y ≡ rows y
 untouched true n f rows y e not_true = absurd (not_true refl)
 untouched false n f rows y e not_true = ap (λ b. cond b (option_map f (rows y)) (rows y)) e
 
 -- an edit of a part moves nothing, and changes no row but that of its target, which may be changed
-edited_next : (e : Edit) (at : ℕ) (entries : List Entry) (s : ℕ) (p : Copied) → IsValid (with_copies p.rows p.rw p.ro) → is_structural e ≡ false → refusal_of_part e p ≡ None → may_change entries s (target e) ≡ true → IsNextPart entries s p (edited_part e at p)
+edited_next : (e : Edit) (at : ℕ) (entries : List Entry) (s : ℕ) (p : PartCopy) → IsValid (with_copies p.rows p.rw p.ro) → is_structural e ≡ false → refusal_of_part e p ≡ None → may_change entries s (target e) ≡ true → IsNextPart entries s p (edited_part e at p)
 edited_next e at entries s p valid plain free may =
     record {
       same = record { job = refl; spawn = refl; ancestors = refl; ro = refl; places = part_edit_of_places e at p valid plain free };
@@ -142,7 +142,7 @@ edited_next e at entries s p valid plain free may =
     }
 
 -- the part that an entry has, once it is another
-next_part : (f : Copied → Copied) (entries : List Entry) (s : ℕ) (x : Entry) (mine : Copied) → x.part ≡ Some mine → IsNextPart entries s mine (f mine) → (p : Copied) → x.part ≡ Some p → (q : Copied) × (option_map f x.part ≡ Some q) × IsNextPart entries s p q
+next_part : (f : PartCopy → PartCopy) (entries : List Entry) (s : ℕ) (x : Entry) (mine : PartCopy) → x.part ≡ Some mine → IsNextPart entries s mine (f mine) → (p : PartCopy) → x.part ≡ Some p → (q : PartCopy) × (option_map f x.part ≡ Some q) × IsNextPart entries s p q
 next_part f entries s x mine has next p is = (f p, ap (option_map f) is, subst (λ q. IsNextPart entries s q (f q)) (same_found mine p x.part has is) next)
 
 edit_next : (e : Edit) (at : ℕ) (entries : List Entry) (s : ℕ) (x : Entry) → IsKeptEntry x → order_refusal (order.Edit s e) entries ≡ None → entry_of entries s ≡ Some x → IsNext entries s x (edited_entry e at x)
@@ -164,10 +164,10 @@ finish_next how at entries s x kept none found =
     let on = ordered_on (order.Finish s how) entries none in
     let same : on.0 ≡ x = same_found on.0 x (entry_of entries s) on.1 found in
     let opened = open_free x (subst (λ y. unless (is_some (open_part y)) NotOpen ≡ None) same on.2) in
-    let p : Copied = opened.0 in
+    let p : PartCopy = opened.0 in
     let of = of_open x p opened.1 in
     let own = kept_part x p of.1 kept in
-    let e = ending p how in
+    let e = end_edit p how in
     let free = ending_free p how own.valid in
     let there : has p (root_id p) ≡ true = here_has e p refl (first_known p.rows p.rw p.ro own.valid) in
     record {
@@ -186,7 +186,7 @@ changed_either true t f entries s e same keeps found next =
     (f e, ap (entry_of (with_entry t f entries)) one ∙ find-at_number number_of t f entries keeps ∙ ap (option_map f) (ap (entry_of entries) (sym one) ∙ found), next one)
 changed_either false t f entries s e other keeps found next = (e, find-other s t number_of f entries other keeps ∙ found, unchanged entries s e)
 
-ordered_next : (o : Order) (at : ℕ) (w : Known) (s : ℕ) (e : Entry) → IsKept w → order_refusal o w.entries ≡ None → entry_of w.entries s ≡ Some e → NextIn w.entries (ordered o at w).next.entries s e
+ordered_next : (o : Order) (at : ℕ) (w : State) (s : ℕ) (e : Entry) → IsConsistent w → order_refusal o w.entries ≡ None → entry_of w.entries s ≡ Some e → NextIn w.entries (allowed_step o at w).next.entries s e
 ordered_next (order.Edit t edit) at w s e kept none found =
     let own : IsKeptEntry e = found_holds IsKeptEntry (is_of s) w.entries e found kept.each in
     changed_either (s == t) t (edited_entry edit at) w.entries s e refl (λ y. refl) found (λ same. edit_next edit at w.entries s e own (ap (λ n. order_refusal (order.Edit n edit) w.entries) same ∙ none) found)
@@ -195,7 +195,7 @@ ordered_next (order.Finish t how) at w s e kept none found =
     changed_either (s == t) t (finished_entry how at) w.entries s e refl (λ y. refl) found (λ same. finish_next how at w.entries s e own (ap (λ n. order_refusal (order.Finish n how) w.entries) same ∙ none) found)
 ordered_next (order.Resend t) at w s e kept none found = (e, found, unchanged w.entries s e)
 
-next_either : (refusal : Option Refusal) (o : Order) (at : ℕ) (w : Known) (s : ℕ) (e : Entry) → order_refusal o w.entries ≡ refusal → IsKept w → entry_of w.entries s ≡ Some e → NextIn w.entries (unless_refused refusal w (ordered o at w)).next.entries s e
+next_either : (refusal : Option Refusal) (o : Order) (at : ℕ) (w : State) (s : ℕ) (e : Entry) → order_refusal o w.entries ≡ refusal → IsConsistent w → entry_of w.entries s ≡ Some e → NextIn w.entries (unless_refused refusal w (allowed_step o at w)).next.entries s e
 next_either None o at w s e none kept found = ordered_next o at w s e kept none found
 next_either (Some r) o at w s e refused kept found = (e, found, unchanged w.entries s e)
 
@@ -208,12 +208,12 @@ no_message : (m : Message) {P : Type 0} → ◌≡◌ {A = Option Message} None 
 no_message m e = cc
 
 -- a message gives back the part of an entry, which is ended
-abbrev pub IsReturnOf : Known → List Entry → ℕ → Option Message → Type 0
+abbrev pub IsReturnOf : State → List Entry → ℕ → Option Message → Type 0
 IsReturnOf w later s sent =
     (m : Message) → sent ≡ Some m
     → (e : Entry) × (entry_of later s ≡ Some e) × (is_ended e ≡ true) × (return_of w.name w.master e ≡ Some m)
 
-pub ordered_return : (o : Order) (at : ℕ) (w : Known) → order_refusal o w.entries ≡ None → IsReturnOf w (ordered o at w).next.entries (spawn_of_order o) (ordered o at w).sent
+pub ordered_return : (o : Order) (at : ℕ) (w : State) → order_refusal o w.entries ≡ None → IsReturnOf w (allowed_step o at w).next.entries (spawn_of_order o) (allowed_step o at w).sent
 ordered_return (order.Edit s e) at w none m made = no_message m made
 ordered_return (order.Finish s how) at w none m made =
     let on = ordered_on (order.Finish s how) w.entries none in
@@ -227,8 +227,8 @@ ordered_return (order.Resend s) at w none m made =
     let on = ordered_on (order.Resend s) w.entries none in
     (on.0, on.1, has_ended on.0 (done_free on.0 on.2).0 on.3, sym (ap (option_and_then (return_of w.name w.master)) on.1) ∙ made)
 
-return_either : (refusal : Option Refusal) (o : Order) (at : ℕ) (w : Known) → order_refusal o w.entries ≡ refusal
-    → IsReturnOf w (unless_refused refusal w (ordered o at w)).next.entries (spawn_of_order o) (unless_refused refusal w (ordered o at w)).sent
+return_either : (refusal : Option Refusal) (o : Order) (at : ℕ) (w : State) → order_refusal o w.entries ≡ refusal
+    → IsReturnOf w (unless_refused refusal w (allowed_step o at w)).next.entries (spawn_of_order o) (unless_refused refusal w (allowed_step o at w)).sent
 return_either None o at w none m made = ordered_return o at w none m made
 return_either (Some r) o at w refused m made = no_message m made
 
@@ -240,7 +240,7 @@ then_mapped f g None = refl
 then_mapped f g (Some e) = refl
 
 -- what is finished may be given back once more
-finished_free : (s : ℕ) (how : End) (at : ℕ) (w : Known) → order_refusal (order.Finish s how) w.entries ≡ None → order_refusal (order.Resend s) (with_entry s (finished_entry how at) w.entries) ≡ None
+finished_free : (s : ℕ) (how : End) (at : ℕ) (w : State) → order_refusal (order.Finish s how) w.entries ≡ None → order_refusal (order.Resend s) (with_entry s (finished_entry how at) w.entries) ≡ None
 finished_free s how at w none =
     let on = ordered_on (order.Finish s how) w.entries none in
     refused_on (order.Resend s) (with_entry s (finished_entry how at) w.entries) (finished_entry how at on.0)
@@ -249,8 +249,8 @@ finished_free s how at w none =
 pub resent_is_same : ResentIsSame
 resent_is_same s how at later w none =
     let finish = order.Finish s how in
-    let next : Known = (ordered finish at w).next in
-    subst (λ (step : Step Known Message). (order_step (order.Resend s) later step.next).sent ≡ step.sent) (sym (done_order finish at w none))
-    (ap (λ (step : Step Known Message). step.sent) (done_order (order.Resend s) later next (finished_free s how at w none))
+    let next : State = (allowed_step finish at w).next in
+    subst (λ (step : Step State Message). (order_step (order.Resend s) later step.next).sent ≡ step.sent) (sym (done_order finish at w none))
+    (ap (λ (step : Step State Message). step.sent) (done_order (order.Resend s) later next (finished_free s how at w none))
     ∙ ap (option_and_then (return_of w.name w.master)) (find-at_number number_of s (finished_entry how at) w.entries (λ y. refl))
     ∙ then_mapped (finished_entry how at) (return_of w.name w.master) (entry_of w.entries s))

@@ -11,12 +11,12 @@ use Rattle.ticket_items.specs.Edit.{is_structural}
 use Rattle.ticket_rows.specs.EditRefusal.{later_refusal}
 use Rattle.ticket_rows.specs.PartEdit.{part_lookups}
 use Rattle.ticket_rows.specs.Ticket.{first_of, is_reserved, unless}
-use Rattle.ticket_tree.specs.Part.{Copied, refusal_of_part}
+use Rattle.ticket_tree.specs.Part.{PartCopy, refusal_of_part}
 use Rattle.controller.specs.Step.{unless_refused}
 use Rattle.controller.specs.declared.message.Message.{Message}
 use Rattle.worker_core.specs.Messages.{body_refusal, is_for_workers, take_refusal}
-use Rattle.worker_core.specs.Orders.{edit_refusal, entry_refusal, is_here, is_to_read, order_refusal, order_step, ordered, part_edit_refusal, resend_refusal, spawn_of_order, work_refusal}
-use Rattle.worker_core.specs.Worker.{Known, entry_of, is_closed, is_declined, is_open, open_part}
+use Rattle.worker_core.specs.Orders.{allowed_step, edit_refusal, entry_refusal, is_here, is_to_read, order_refusal, order_step, part_edit_refusal, resend_refusal, spawn_of_order, work_refusal}
+use Rattle.worker_core.specs.Worker.{State, entry_of, is_closed, is_declined, is_open, open_part}
 use Rattle.worker_core.specs.declared.entry.Entry.{Entry}
 use Rattle.worker_core.specs.declared.order.Order.{Order}
 
@@ -61,26 +61,26 @@ refused_on o entries e found = ap (λ f. option_map_or (entry_refusal o) f (Some
 -- ---- a part that is open
 
 -- the entry is, and has the part
-pub of_open : (e : Entry) (p : Copied) → open_part e ≡ Some p → (is_open e ≡ true) × (e.part ≡ Some p)
+pub of_open : (e : Entry) (p : PartCopy) → open_part e ≡ Some p → (is_open e ≡ true) × (e.part ≡ Some p)
 of_open e p is = by (is_open e) is
   where
     by : (b : Bool) → cond b e.part None ≡ Some p → (b ≡ true) × (e.part ≡ Some p)
     by true is = (refl, is)
     by false is = cc
 
-pub opened : (e : Entry) (p : Copied) → is_open e ≡ true → e.part ≡ Some p → open_part e ≡ Some p
+pub opened : (e : Entry) (p : PartCopy) → is_open e ≡ true → e.part ≡ Some p → open_part e ≡ Some p
 opened e p is_open' has = ap (λ b. cond b e.part None) is_open' ∙ has
 
 -- ---- edits
 
 pub record IsFree (e : Edit) (entry : Entry) : Type 0 where
-  pub part : Copied
+  pub part : PartCopy
   pub opened : open_part entry ≡ Some part
   pub plain : is_structural e ≡ false
   pub here : is_here e part ≡ true
   pub free : refusal_of_part e part ≡ None
 
-edited_open : (f : Copied → Option Refusal) (o : Option Copied) → option_map_or f o (Some NotOpen) ≡ None → (p : Copied) × (o ≡ Some p) × (f p ≡ None)
+edited_open : (f : PartCopy → Option Refusal) (o : Option PartCopy) → option_map_or f o (Some NotOpen) ≡ None → (p : PartCopy) × (o ≡ Some p) × (f p ≡ None)
 edited_open f None none = cc
 edited_open f (Some p) none = (p, refl, none)
 
@@ -93,7 +93,7 @@ four_none false false false l e = cc
 four_none true c d l e = cc
 
 -- an edit of what is here isn't refused by the part, but for its value
-part_free : (e : Edit) (p : Copied) → is_structural e ≡ false → is_here e p ≡ true → later_refusal e (part_lookups p.rows p.rw) ≡ None → refusal_of_part e p ≡ None
+part_free : (e : Edit) (p : PartCopy) → is_structural e ≡ false → is_here e p ≡ true → later_refusal e (part_lookups p.rows p.rw) ≡ None → refusal_of_part e p ≡ None
 part_free (SetStatus n status) p plain here later =
     ap (λ b. first_of (unless b UnknownNode ∷ unless (not (is_reserved status)) ReservedStatus ∷ [])) here ∙ ap (λ o. first_of (None ∷ o ∷ [])) later
 part_free (SetAttr n name value) p plain here later = ap (λ b. first_of (unless b UnknownNode ∷ None ∷ [])) here
@@ -107,18 +107,18 @@ part_free (AddLink n link) p plain here later = absurd (true≢false plain)
 pub edit_free : (e : Edit) (entry : Entry) → edit_refusal e entry ≡ None → IsFree e entry
 edit_free e entry none =
     let on = edited_open (part_edit_refusal e) (open_part entry) none in
-    let p : Copied = on.0 in
+    let p : PartCopy = on.0 in
     let parts = four_none (is_structural e) (is_here e p) (is_to_read e p) (later_refusal e (part_lookups p.rows p.rw)) on.2 in
     record { part = p; opened = on.1; plain = parts.0; here = parts.1; free = part_free e p parts.0 parts.1 parts.2 }
 
 -- ---- other orders
 
-only_open : (o : Option Copied) → unless (is_some o) NotOpen ≡ None → (p : Copied) × (o ≡ Some p)
+only_open : (o : Option PartCopy) → unless (is_some o) NotOpen ≡ None → (p : PartCopy) × (o ≡ Some p)
 only_open (Some p) e = (p, refl)
 only_open None e = cc
 
 -- what may be finished has a part that is open
-pub open_free : (e : Entry) → unless (is_some (open_part e)) NotOpen ≡ None → (p : Copied) × (open_part e ≡ Some p)
+pub open_free : (e : Entry) → unless (is_some (open_part e)) NotOpen ≡ None → (p : PartCopy) × (open_part e ≡ Some p)
 open_free e none = only_open (open_part e) none
 
 only_done : (a b : Bool) → first_of (unless (not a) NotDone ∷ unless (not b) Acknowledged ∷ []) ≡ None → (a ≡ false) × (b ≡ false)
@@ -131,8 +131,8 @@ pub done_free : (e : Entry) → resend_refusal e ≡ None → (is_open e ≡ fal
 done_free e none = only_done (is_open e) (is_closed e) none
 
 -- an order that isn't refused is done
-pub done_order : (o : Order) (at : ℕ) (w : Known) → order_refusal o w.entries ≡ None → order_step o at w ≡ ordered o at w
-done_order o at w free = ap (λ why. unless_refused why w (ordered o at w)) free
+pub done_order : (o : Order) (at : ℕ) (w : State) → order_refusal o w.entries ≡ None → order_step o at w ≡ allowed_step o at w
+done_order o at w free = ap (λ why. unless_refused why w (allowed_step o at w)) free
 
 -- ---- messages
 
@@ -143,18 +143,18 @@ three_none true false l e = cc
 three_none false b l e = cc
 
 -- a message that isn't refused isn't refused for what it says
-pub body_free : (m : Message) (w : Known) → take_refusal m w ≡ None → body_refusal m.body w.entries ≡ None
+pub body_free : (m : Message) (w : State) → take_refusal m w ≡ None → body_refusal m.body w.entries ≡ None
 body_free m w none = (three_none (bytes_eq m.receiver w.name && is_for_workers m.body) (bytes_eq m.sender w.master) (body_refusal m.body w.entries) none).2
 
 -- it is for the worker, and from its master
-abbrev pub is_for : Message → Known → Bool
+abbrev pub is_for : Message → State → Bool
 is_for m w = bytes_eq m.receiver w.name && is_for_workers m.body
 
-abbrev pub is_from : Message → Known → Bool
+abbrev pub is_from : Message → State → Bool
 is_from m w = bytes_eq m.sender w.master
 
-pub for_free : (m : Message) (w : Known) → take_refusal m w ≡ None → is_for m w ≡ true
+pub for_free : (m : Message) (w : State) → take_refusal m w ≡ None → is_for m w ≡ true
 for_free m w none = (three_none (is_for m w) (is_from m w) (body_refusal m.body w.entries) none).0
 
-pub from_free : (m : Message) (w : Known) → take_refusal m w ≡ None → is_from m w ≡ true
+pub from_free : (m : Message) (w : State) → take_refusal m w ≡ None → is_from m w ≡ true
 from_free m w none = (three_none (is_for m w) (is_from m w) (body_refusal m.body w.entries) none).1

@@ -9,7 +9,7 @@ use Rattle.ticket_items.specs.declared.node_row.NodeRow.{NodeRow}
 use Rattle.ticket_items.specs.declared.refusal.Refusal.TheVariants.{UnknownEntry, NotOpen, ReadOnly, NotInPart, NotForWorkers, NotDone, Acknowledged, BadPart, ReservedStatus, WrongMessage, WrongSender}
 use Rattle.ticket_items.specs.declared.resource.Resource.{Resource}
 use Rattle.ticket_items.specs.declared.usage.Usage.TheVariants.{Input, Output}
-use Rattle.ticket_tree.specs.Part.{Copied}
+use Rattle.ticket_tree.specs.Part.{PartCopy}
 use Rattle.controller.specs.declared.body.Body.{Body}
 use Rattle.controller.specs.declared.body.Body.TheVariants.{Submit, Return, Abort, Answer}
 use Rattle.controller.specs.declared.command.Command.TheVariants as command
@@ -18,9 +18,9 @@ use Rattle.controller.specs.declared.queue_status.QueueStatus.TheVariants.{Runni
 use Rattle.controller.specs.declared.reply.Reply.TheVariants.{Again, Acked, Noted, Taken}
 use Rattle.controller.specs.declared.reply.Reply.TheVariants as reply
 use Rattle.worker_core.specs.Messages.{take_step}
-use Rattle.worker_core.specs.Orders.{order_refusal, ordered}
+use Rattle.worker_core.specs.Orders.{allowed_step, order_refusal}
 use Rattle.worker_core.specs.Stored.{is_worker}
-use Rattle.worker_core.specs.Worker.{Known, known, may_change}
+use Rattle.worker_core.specs.Worker.{State, may_change, state}
 use Rattle.worker_core.specs.declared.end.End.TheVariants as end
 use Rattle.worker_core.specs.declared.order.Order.TheVariants.{Edit, Finish, Resend}
 use Rattle.worker_core.specs.declared.stage.Stage.TheVariants.{Open, Done, Closed}
@@ -46,7 +46,7 @@ printing status =
       audits = [];
     }
 
-abbrev part : List ℕ → Copied
+abbrev part : List ℕ → PartCopy
 part status =
     record {
       job_id = codes "J1";
@@ -63,14 +63,14 @@ from_to sender receiver at body = record { sender = sender; receiver = receiver;
 abbrev sent : Message
 sent = from_to (codes "mis") (codes "press") 100 (Submit (part (codes "Waiting")))
 
-abbrev press : Known
-press = known (codes "press") (codes "mis") []
+abbrev press : State
+press = state (codes "press") (codes "mis") []
 
-abbrev taken : Known
+abbrev taken : State
 taken = (take_step sent 110 press).next
 
-abbrev done : Known
-done = (ordered (Finish 1 end.Completed) 120 taken).next
+abbrev done : State
+done = (allowed_step (Finish 1 end.Completed) 120 taken).next
 
 abbrev acknowledged : Message
 acknowledged = from_to (codes "mis") (codes "press") 150 (Answer command.Return 1 (Ok Completed))
@@ -78,7 +78,7 @@ acknowledged = from_to (codes "mis") (codes "press") 150 (Answer command.Return 
 abbrev refusing : Message
 refusing = from_to (codes "mis") (codes "press") 150 (Answer command.Return 1 (Err 22))
 
-abbrev closed : Known
+abbrev closed : State
 closed = (take_step acknowledged 150 done).next
 
 -- ---- orders
@@ -117,7 +117,7 @@ not_done = refl
 noted : order_refusal (Edit 1 (Note (codes "n1") (codes "washed up"))) taken.entries ≡ None
 noted = refl
 
-note : map (λ e. option_map (λ p. map (λ r. r.audits) p.rows) e.part) (ordered (Edit 1 (Note (codes "n1") (codes "washed up"))) 115 taken).next.entries ≡ Some ((Notification 115 (codes "washed up") ∷ []) ∷ []) ∷ []
+note : map (λ e. option_map (λ p. map (λ r. r.audits) p.rows) e.part) (allowed_step (Edit 1 (Note (codes "n1") (codes "washed up"))) 115 taken).next.entries ≡ Some ((Notification 115 (codes "washed up") ∷ []) ∷ []) ∷ []
 note = refl
 
 not_open : order_refusal (Edit 1 (SetStatus (codes "n1") (codes "Waiting"))) done.entries ≡ Some NotOpen
@@ -133,10 +133,10 @@ finished : done.entries ≡ record { spawn_id = 1; phase = Done end.Completed; p
 finished = refl
 
 -- the part comes back with the Status of the end, and is the same once more
-returned : (ordered (Finish 1 end.Completed) 120 taken).sent ≡ Some (from_to (codes "press") (codes "mis") 120 (Return (part (codes "Completed"))))
+returned : (allowed_step (Finish 1 end.Completed) 120 taken).sent ≡ Some (from_to (codes "press") (codes "mis") 120 (Return (part (codes "Completed"))))
 returned = refl
 
-resent : (ordered (Resend 1) 130 done).sent ≡ Some (from_to (codes "press") (codes "mis") 120 (Return (part (codes "Completed"))))
+resent : (allowed_step (Resend 1) 130 done).sent ≡ Some (from_to (codes "press") (codes "mis") 120 (Return (part (codes "Completed"))))
 resent = refl
 
 may : map (may_change taken.entries 1) (codes "n1" ∷ codes "r2" ∷ codes "r1" ∷ codes "n0" ∷ []) ≡ true ∷ true ∷ false ∷ false ∷ []
@@ -236,10 +236,10 @@ bad_again = refl
 abbrev asked : Message
 asked = from_to (codes "mis") (codes "press") 100 (Abort 1)
 
-abbrev declining : Known
+abbrev declining : State
 declining = (take_step asked 120 press).next
 
-abbrev ended : Known
+abbrev ended : State
 ended = (take_step asked 120 taken).next
 
 -- before the part is taken it is declined, for good
@@ -280,7 +280,7 @@ ends_answer = refl
 ended_entries : ended.entries ≡ record { spawn_id = 1; phase = Done end.Aborted; part = Some (part (codes "Aborted")); at = 120 } ∷ []
 ended_entries = refl
 
-ended_return : (ordered (Resend 1) 123 ended).sent ≡ Some (from_to (codes "press") (codes "mis") 120 (Return (part (codes "Aborted"))))
+ended_return : (allowed_step (Resend 1) 123 ended).sent ≡ Some (from_to (codes "press") (codes "mis") 120 (Return (part (codes "Aborted"))))
 ended_return = refl
 
 -- one that is finished or closed stays so

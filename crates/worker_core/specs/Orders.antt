@@ -15,7 +15,7 @@ use Rattle.ticket_rows.specs.EditRefusal.{later_refusal}
 use Rattle.ticket_rows.specs.Homes.{has_resource}
 use Rattle.ticket_rows.specs.PartEdit.{part_lookups}
 use Rattle.ticket_rows.specs.Ticket.{first_of, has_node, unless}
-use Rattle.ticket_tree.specs.Part.{Copied, edited_part}
+use Rattle.ticket_tree.specs.Part.{PartCopy, edited_part}
 use Rattle.controller.specs.Step.{Makes, Step, unless_refused}
 use Rattle.controller.specs.declared.body.Body.TheVariants.{Return}
 use Rattle.controller.specs.declared.done.Done.{Done}
@@ -26,7 +26,7 @@ use Rattle.worker_core.specs.declared.entry.Entry.{Entry}
 use Rattle.worker_core.specs.declared.order.Order.{Order}
 use Rattle.worker_core.specs.declared.order.Order.TheVariants as order
 use Rattle.worker_core.specs.declared.stage.Stage.TheVariants as stages
-use Rattle.worker_core.specs.Worker.{Known, end_word, entry_of, is_closed, is_declined, is_open}
+use Rattle.worker_core.specs.Worker.{State, end_word, entry_of, is_closed, is_declined, is_open}
 use Rattle.worker_core.specs.Worker.{open_part, root_id, with_entry}
 
 -- the spawn that an order is about
@@ -39,17 +39,17 @@ spawn_of_order (order.Resend s) = s
 
 -- whether the target of an edit is a node of a part, or a resource of its pools or a copy that may
 -- be changed
-abbrev pub is_here : Edit → Copied → Bool
+abbrev pub is_here : Edit → PartCopy → Bool
 is_here e p =
     if is_of_node e then has_node p.rows (target e) else
     has_resource p.rows (target e) || mem (target e) (resource_ids p.rw)
 
 -- whether it is a copy that may be read alone
-abbrev pub is_to_read : Edit → Copied → Bool
+abbrev pub is_to_read : Edit → PartCopy → Bool
 is_to_read e p = not (is_of_node e) && mem (target e) (resource_ids p.ro)
 
 -- why an edit of a part that is open is refused, if it is
-abbrev pub part_edit_refusal : Edit → Copied → Option Refusal
+abbrev pub part_edit_refusal : Edit → PartCopy → Option Refusal
 part_edit_refusal e p =
     first_of
     (unless (not (is_structural e)) NotForWorkers
@@ -89,12 +89,12 @@ abbrev pub edited_entry : Edit → ℕ → Entry → Entry
 edited_entry e at entry = record entry { part = option_map (edited_part e at) entry.part }
 
 -- the edit that gives the node of a part the Status of an end
-abbrev pub ending : Copied → End → Edit
-ending p how = SetStatus (root_id p) (end_word how)
+abbrev pub end_edit : PartCopy → End → Edit
+end_edit p how = SetStatus (root_id p) (end_word how)
 
 -- a part after the end: its node has the Status
-abbrev pub ended_part : End → ℕ → Copied → Copied
-ended_part how at p = edited_part (ending p how) at p
+abbrev pub ended_part : End → ℕ → PartCopy → PartCopy
+ended_part how at p = edited_part (end_edit p how) at p
 
 -- an entry that is finished: its part has ended, and its time is that of the end
 abbrev pub finished_entry : End → ℕ → Entry → Entry
@@ -108,7 +108,7 @@ finished_entry how at entry =
 -- ---- what goes out
 
 -- the message that gives a part back at a time, from a name to another
-abbrev pub part_return : List ℕ → List ℕ → ℕ → Copied → Message
+abbrev pub part_return : List ℕ → List ℕ → ℕ → PartCopy → Message
 part_return name master at p =
     record { sender = name; receiver = master; at = at; body = Return p }
 
@@ -119,14 +119,14 @@ return_of name master entry = option_map (part_return name master entry.at) entr
 -- ---- the step
 
 -- the worker's step on an order at a time that isn't refused
-abbrev pub ordered : Order → ℕ → Known → Step Known Message
-ordered (order.Edit s e) at w =
+abbrev pub allowed_step : Order → ℕ → State → Step State Message
+allowed_step (order.Edit s e) at w =
     record {
       reply = Ok reply.Edited;
       sent = None;
       next = record w { entries = with_entry s (edited_entry e at) w.entries };
     }
-ordered (order.Finish s how) at w =
+allowed_step (order.Finish s how) at w =
     record {
       reply = Ok (reply.Finished s);
       sent =
@@ -134,7 +134,7 @@ ordered (order.Finish s how) at w =
           (entry_of w.entries s);
       next = record w { entries = with_entry s (finished_entry how at) w.entries };
     }
-ordered (order.Resend s) at w =
+allowed_step (order.Resend s) at w =
     record {
       reply = Ok (reply.Sent s);
       sent = option_and_then (return_of w.name w.master) (entry_of w.entries s);
@@ -142,9 +142,9 @@ ordered (order.Resend s) at w =
     }
 
 -- the worker's step on an order at a time
-abbrev pub order_step : Order → ℕ → Known → Step Known Message
-order_step o at w = unless_refused (order_refusal o w.entries) w (ordered o at w)
+abbrev pub order_step : Order → ℕ → State → Step State Message
+order_step o at w = unless_refused (order_refusal o w.entries) w (allowed_step o at w)
 
 -- a worker makes the step of an order at a time: with this result, and it is then this
-abbrev pub Does : Order → ℕ → Known → Result Done Refusal → Known → Type 0
+abbrev pub Does : Order → ℕ → State → Result Done Refusal → State → Type 0
 Does o at old result new = Makes (order_step o at old) old result new

@@ -12,7 +12,7 @@ use Rattle.ticket_items.specs.Resource.{resource_ids}
 use Rattle.ticket_items.specs.declared.refusal.Refusal.TheVariants as refusals
 use Rattle.ticket_rows.specs.Copies.{with_copies}
 use Rattle.ticket_rows.specs.Ticket.{IsValid, ids}
-use Rattle.ticket_tree.specs.Part.{Copied, is_sound}
+use Rattle.ticket_tree.specs.Part.{PartCopy, is_sound}
 use Rattle.controller.specs.declared.queue_status.QueueStatus.{QueueStatus}
 use Rattle.controller.specs.declared.queue_status.QueueStatus.TheVariants as queue
 use Rattle.worker_core.specs.declared.end.End.{End}
@@ -24,13 +24,13 @@ use Rattle.worker_core.specs.Numbers.{are_distinct_numbers}
 
 -- what a worker knows: its name, its master's, and its entries in the order in which they were
 -- taken
-pub record Known : Type 0 where
+pub record State : Type 0 where
   pub name : List ℕ
   pub master : List ℕ
   pub entries : List Entry
 
-abbrev pub known : List ℕ → List ℕ → List Entry → Known
-known name master entries = record { name = name; master = master; entries = entries }
+abbrev pub state : List ℕ → List ℕ → List Entry → State
+state name master entries = record { name = name; master = master; entries = entries }
 
 -- ---- stages
 
@@ -73,11 +73,11 @@ status_of_end Aborted = queue.Aborted
 
 -- what a command on an entry is told: while it is open that it is `Running`, then its end; or that
 -- it was declined
-abbrev pub told_of_stage : Stage → Result QueueStatus ℕ
-told_of_stage Open = Ok queue.Running
-told_of_stage (Done how) = Ok (status_of_end how)
-told_of_stage (Closed how) = Ok (status_of_end how)
-told_of_stage Declined = Err (number_of refusals.Declined)
+abbrev pub response_of_stage : Stage → Result QueueStatus ℕ
+response_of_stage Open = Ok queue.Running
+response_of_stage (Done how) = Ok (status_of_end how)
+response_of_stage (Closed how) = Ok (status_of_end how)
+response_of_stage Declined = Err (number_of refusals.Declined)
 
 -- the Status of the node of a part whose work ended so
 abbrev pub end_word : End → List ℕ
@@ -87,7 +87,7 @@ end_word Aborted = codes "Aborted"
 -- ---- entries
 
 -- an entry that is new: of a part that is taken, and of a spawn that is declined
-abbrev pub new_entry : Copied → ℕ → Entry
+abbrev pub new_entry : PartCopy → ℕ → Entry
 new_entry p at = record { spawn_id = p.spawn_id; phase = Open; part = Some p; at = at }
 
 abbrev pub declined_entry : ℕ → ℕ → Entry
@@ -106,18 +106,18 @@ abbrev pub is_ended : Entry → Bool
 is_ended e = is_ended_stage e.phase
 
 -- the part of an entry that may be changed: it is open
-abbrev pub open_part : Entry → Option Copied
+abbrev pub open_part : Entry → Option PartCopy
 open_part e = if is_open e then e.part else None
 
 -- an entry in a stage once what was given back has come: one that is done gives up its part
-abbrev pub closed_in : Stage → Entry → Entry
-closed_in Open e = e
-closed_in (Done how) e = record e { phase = Closed how; part = None }
-closed_in (Closed how) e = e
-closed_in Declined e = e
+abbrev pub closed_entry_in : Stage → Entry → Entry
+closed_entry_in Open e = e
+closed_entry_in (Done how) e = record e { phase = Closed how; part = None }
+closed_entry_in (Closed how) e = e
+closed_entry_in Declined e = e
 
 abbrev pub closed_entry : Entry → Entry
-closed_entry e = closed_in e.phase e
+closed_entry e = closed_entry_in e.phase e
 
 -- whether an entry is of the spawn of a number
 abbrev pub is_of : ℕ → Entry → Bool
@@ -136,14 +136,14 @@ abbrev pub with_entry : ℕ → (Entry → Entry) → List Entry → List Entry
 with_entry s f entries = map (λ (e : Entry). if is_of s e then f e else e) entries
 
 -- what a command of a spawn is told, which is running while there is no entry
-abbrev pub told_in : List Entry → ℕ → Result QueueStatus ℕ
-told_in entries s =
-    option_map_or (λ e. told_of_stage e.phase) (entry_of entries s) (Ok queue.Running)
+abbrev pub response_in : List Entry → ℕ → Result QueueStatus ℕ
+response_in entries s =
+    option_map_or (λ e. response_of_stage e.phase) (entry_of entries s) (Ok queue.Running)
 
 -- ---- what may be changed
 
 -- whether an id names a node of a part, a resource of its pools, or a copy that may be changed
-abbrev pub has : Copied → List ℕ → Bool
+abbrev pub has : PartCopy → List ℕ → Bool
 has p x = mem x (ids p.rows) || mem x (resource_ids p.rw)
 
 -- whether a node or a resource may be changed through the entry of a spawn: the entry is open, and
@@ -155,14 +155,14 @@ may_change entries s x =
 -- ---- what always holds
 
 -- the id and the Status of the node of a part, which is the first of its rows
-abbrev pub root_id : Copied → List ℕ
+abbrev pub root_id : PartCopy → List ℕ
 root_id p = option_map_or (λ r. r.id) (slice_get p.rows 0) []
 
-abbrev pub root_status : Copied → List ℕ
+abbrev pub root_status : PartCopy → List ℕ
 root_status p = option_map_or (λ r. r.status) (slice_get p.rows 0) []
 
 -- whether the node of a part has the Status of its end, if the work on it has ended
-abbrev pub has_ended_so : Stage → Copied → Bool
+abbrev pub has_ended_so : Stage → PartCopy → Bool
 has_ended_so Open p = true
 has_ended_so (Done how) p = bytes_eq (root_status p) (end_word how)
 has_ended_so (Closed how) p = bytes_eq (root_status p) (end_word how)
@@ -170,7 +170,7 @@ has_ended_so Declined p = true
 
 -- an entry's part is of its spawn, is a valid ticket with its copies, can have come from a ticket,
 -- and has the Status of its end
-pub record IsKeptPart (e : Entry) (p : Copied) : Type 0 where
+pub record IsKeptPart (e : Entry) (p : PartCopy) : Type 0 where
   pub own : p.spawn_id ≡ e.spawn_id
   pub valid : IsValid (with_copies p.rows p.rw p.ro)
   pub sound : is_sound p ≡ true
@@ -182,7 +182,7 @@ pub record IsKeptEntry (e : Entry) : Type 0 where
   pub part : IfSome e.part (IsKeptPart e)
 
 -- a worker's name is not its master's, no two of its entries are of one spawn, and each is as above
-pub record IsKept (w : Known) : Type 0 where
+pub record IsConsistent (w : State) : Type 0 where
   pub apart : bytes_eq w.name w.master ≡ false
   pub once : are_distinct_numbers (numbers w.entries) ≡ true
   pub each : All IsKeptEntry w.entries

@@ -110,12 +110,12 @@ impl Entries {
     }
 
     /// What a command of a spawn is told, which is running while there is no entry.
-    pub fn told_in(&self, spawn: SpawnId) -> Result<QueueStatus, u16>
-        ensures { result ≡ worker.told_in self.now spawn }
+    pub fn response_in(&self, spawn: SpawnId) -> Result<QueueStatus, u16>
+        ensures { result ≡ worker.response_in self.now spawn }
     {
         match self.entry_of(spawn) {
             None => Ok(QueueStatus::Running),
-            Some(entry) => entry.phase.told(),
+            Some(entry) => entry.phase.response(),
         }
     }
 

@@ -36,7 +36,7 @@ impl Entry {
     }
 
     /// The entry of a spawn that is declined at a time.
-    pub(crate) fn declined(spawn_id: SpawnId, at: u64) -> Entry
+    pub(crate) fn new_declined(spawn_id: SpawnId, at: u64) -> Entry
         ensures { result ≡ worker.declined_entry spawn_id at }
     {
         Entry {

@@ -80,9 +80,9 @@ fn open_to(order: &Order, entries: &Entries) -> Result<usize, Refusal>
 }
 
 /// The edit that gives the node of a part the Status of an end.
-fn ending(alloc: Global, part: &Part, end: End) -> Result<Edit, Refusal>
-    ensures edit { IfOk result (λ edit. edit ≡ orders.ending part.now end) }
-    ensures free { OnOk result (refusal_of_part (orders.ending part.now end) part.now ≡ None) }
+fn end_edit(alloc: Global, part: &Part, end: End) -> Result<Edit, Refusal>
+    ensures edit { IfOk result (λ edit. edit ≡ orders.end_edit part.now end) }
+    ensures free { OnOk result (refusal_of_part (orders.end_edit part.now end) part.now ≡ None) }
     ensures memory { IfErr result (λ e. e ≡ Refusal.Memory) }
 {
     let status = Name::new(alloc, end.word())?;
@@ -101,7 +101,7 @@ fn end_part(alloc: Global, part: &mut Part, end: End, at: u64) -> Result<(), Ref
     ensures err { OnErr result (part.new ≡ part.old) }
     ensures memory { IfErr result (λ e. e ≡ Refusal.Memory) }
 {
-    let edit = ending(alloc, part, end)?;
+    let edit = end_edit(alloc, part, end)?;
     part.apply(alloc, edit, at)
 }
 
@@ -282,8 +282,8 @@ pub fn do_order(
     order: Order,
     at: u64,
 ) -> Result<Done, Refusal>
-    ensures { orders.Does order at (worker.known name.now master.now entries.old) result
-        (worker.known name.now master.now entries.new) }
+    ensures { orders.Does order at (worker.state name.now master.now entries.old) result
+        (worker.state name.now master.now entries.new) }
 {
     match open_to(&order, entries) {
         Ok(place) => {

@@ -23,7 +23,7 @@ impl Stage {
     pub fn is_open(self) -> bool
         // Proved: An entry tells whether it is open, whether it was declined, and what a command
         // on it is told.
-        // By `Stage::is_declined`, `Stage::told`.
+        // By `Stage::is_declined`, `Stage::response`.
         ensures { result ≡ worker.is_open_stage self }
     {
         match self {
@@ -64,8 +64,8 @@ impl Stage {
 
     /// What a command of the spawn is told: the Status of the queue entry of the part, or the
     /// number of the refusal where that was declined.
-    pub fn told(self) -> Result<QueueStatus, u16>
-        ensures { result ≡ worker.told_of_stage self }
+    pub fn response(self) -> Result<QueueStatus, u16>
+        ensures { result ≡ worker.response_of_stage self }
     {
         match self {
             Stage::Open => Ok(QueueStatus::Running),

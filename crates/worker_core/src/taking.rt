@@ -85,7 +85,7 @@ fn body_refusal(entries: &Entries, body: &Body) -> Option<Refusal>
 /// reason that holds. Needs no memory.
 fn refusal_of(name: &Id, master: &Id, entries: &Entries, message: &Message) -> Option<Refusal>
     ensures { result
-        ≡ messages.take_refusal message.now (worker.known name.now master.now entries.now) }
+        ≡ messages.take_refusal message.now (worker.state name.now master.now entries.now) }
 {
     if message.receiver != *name || !is_for_workers(&message.body) {
         return Some(Refusal::WrongMessage);
@@ -97,20 +97,20 @@ fn refusal_of(name: &Id, master: &Id, entries: &Entries, message: &Message) -> O
 }
 
 /// What an answer is taken as.
-fn answer_taken(entries: &Entries, spawn: SpawnId, told: Result<QueueStatus, u16>) -> Taken
+fn answer_taken(entries: &Entries, spawn: SpawnId, response: Result<QueueStatus, u16>) -> Taken
     ensures reply { (name : List ℕ) (master : List ℕ) → result.reply
-        ≡ (messages.answered spawn told (worker.known name master entries.now)).reply }
-    ensures told { (name : List ℕ) (master : List ℕ) → result.told
-        ≡ (messages.answered spawn told (worker.known name master entries.now)).told }
+        ≡ (messages.on_answer spawn response (worker.state name master entries.now)).reply }
+    ensures response { (name : List ℕ) (master : List ℕ) → result.response
+        ≡ (messages.on_answer spawn response (worker.state name master entries.now)).response }
 {
-    match told {
+    match response {
         Ok(_) => Taken {
             reply: Reply::Acked(spawn),
-            told: entries.told_in(spawn),
+            response: entries.response_in(spawn),
         },
         Err(_) => Taken {
             reply: Reply::Noted(spawn),
-            told: entries.told_in(spawn),
+            response: entries.response_in(spawn),
         },
     }
 }
@@ -140,18 +140,18 @@ fn abort_reply(spawn: SpawnId, entry: &Entry) -> Reply
 /// What a part that goes out is taken as: it gets an entry where there is none.
 fn part_taken(entries: &Entries, part: &Part) -> Taken
     ensures reply { (name : List ℕ) (master : List ℕ) (at : ℕ) → result.reply
-        ≡ (messages.submitted part.now at (worker.known name master entries.now)).reply }
-    ensures told { (name : List ℕ) (master : List ℕ) (at : ℕ) → result.told
-        ≡ (messages.submitted part.now at (worker.known name master entries.now)).told }
+        ≡ (messages.on_submit part.now at (worker.state name master entries.now)).reply }
+    ensures response { (name : List ℕ) (master : List ℕ) (at : ℕ) → result.response
+        ≡ (messages.on_submit part.now at (worker.state name master entries.now)).response }
 {
     match entries.entry_of(part.spawn_id()) {
         None => Taken {
             reply: Reply::Taken(part.spawn_id()),
-            told: Ok(QueueStatus::Running),
+            response: Ok(QueueStatus::Running),
         },
         Some(entry) => Taken {
             reply: again_reply(part.spawn_id(), entry),
-            told: entry.phase.told(),
+            response: entry.phase.response(),
         },
     }
 }
@@ -159,30 +159,30 @@ fn part_taken(entries: &Entries, part: &Part) -> Taken
 /// What is told of an entry to the command to give its spawn up, as the entry is after that.
 fn abort_told(entry: &Entry) -> Result<QueueStatus, u16>
     ensures { (at : ℕ) → result
-        ≡ worker.told_of_stage (messages.aborted_entry at entry.now).phase }
+        ≡ worker.response_of_stage (messages.aborted_entry at entry.now).phase }
 {
     if entry.phase.is_open() {
         Ok(QueueStatus::Aborted)
     } else {
-        entry.phase.told()
+        entry.phase.response()
     }
 }
 
 /// What it is taken as that a spawn is to be given up.
 fn abort_taken(entries: &Entries, spawn: SpawnId) -> Taken
     ensures reply { (name : List ℕ) (master : List ℕ) (at : ℕ) → result.reply
-        ≡ (messages.aborted spawn at (worker.known name master entries.now)).reply }
-    ensures told { (name : List ℕ) (master : List ℕ) (at : ℕ) → result.told
-        ≡ (messages.aborted spawn at (worker.known name master entries.now)).told }
+        ≡ (messages.on_abort spawn at (worker.state name master entries.now)).reply }
+    ensures response { (name : List ℕ) (master : List ℕ) (at : ℕ) → result.response
+        ≡ (messages.on_abort spawn at (worker.state name master entries.now)).response }
 {
     match entries.entry_of(spawn) {
         None => Taken {
             reply: Reply::Declined(spawn),
-            told: Stage::Declined.told(),
+            response: Stage::Declined.response(),
         },
         Some(entry) => Taken {
             reply: abort_reply(spawn, entry),
-            told: abort_told(entry),
+            response: abort_told(entry),
         },
     }
 }
@@ -190,15 +190,15 @@ fn abort_taken(entries: &Entries, spawn: SpawnId) -> Taken
 /// What a message is taken as.
 pub fn taken_as(entries: &Entries, body: &Body) -> Taken
     ensures reply { (name : List ℕ) (master : List ℕ) (at : ℕ) → result.reply
-        ≡ (messages.taken body.now at (worker.known name master entries.now)).reply }
-    ensures told { (name : List ℕ) (master : List ℕ) (at : ℕ) → result.told
-        ≡ (messages.taken body.now at (worker.known name master entries.now)).told }
+        ≡ (messages.on_body body.now at (worker.state name master entries.now)).reply }
+    ensures response { (name : List ℕ) (master : List ℕ) (at : ℕ) → result.response
+        ≡ (messages.on_body body.now at (worker.state name master entries.now)).response }
 {
     match body {
         Body::Submit(part) => part_taken(entries, part),
         Body::Return(part) => Taken {
             reply: Reply::Already(part.spawn_id()),
-            told: entries.told_in(part.spawn_id()),
+            response: entries.response_in(part.spawn_id()),
         },
         Body::Abort(spawn_id) => abort_taken(entries, *spawn_id),
         Body::Answer {
@@ -211,16 +211,21 @@ pub fn taken_as(entries: &Entries, body: &Body) -> Taken
 
 /// What a message is taken as by the worker of a name that has these entries of its master, or why
 /// it is refused.
-fn judged(name: &Id, master: &Id, entries: &Entries, message: &Message) -> Result<Taken, Refusal>
+fn checked_taken(
+    name: &Id,
+    master: &Id,
+    entries: &Entries,
+    message: &Message,
+) -> Result<Taken, Refusal>
     ensures reply { (at : ℕ) → steps.reply_of result
         ≡ (messages.take_step message.now at
-        (worker.known name.now master.now entries.now)).reply }
+        (worker.state name.now master.now entries.now)).reply }
     ensures answer { (at : ℕ) →
-        replies.answer_to name.now message.now at (steps.told_of result)
+        replies.answer_to name.now message.now at (steps.response_of result)
         ≡ (messages.take_step message.now at
-        (worker.known name.now master.now entries.now)).sent }
+        (worker.state name.now master.now entries.now)).sent }
     ensures refused { is_err result ≡ is_some (messages.take_refusal message.now
-        (worker.known name.now master.now entries.now)) }
+        (worker.state name.now master.now entries.now)) }
 {
     match refusal_of(name, master, entries, message) {
         Some(refusal) => Err(refusal),
@@ -231,8 +236,8 @@ fn judged(name: &Id, master: &Id, entries: &Entries, message: &Message) -> Resul
 /// Makes an entry of a part that is taken at a time, where there is none of its spawn.
 fn enter(entries: &mut Entries, part: Part, at: u64) -> Result<(), AllocError>
     ensures ok { (name : List ℕ) (master : List ℕ) → OnOk result
-        (worker.known name master entries.new
-        ≡ (messages.submitted part at (worker.known name master entries.old)).next) }
+        (worker.state name master entries.new
+        ≡ (messages.on_submit part at (worker.state name master entries.old)).next) }
     ensures err { OnErr result (entries.new ≡ entries.old) }
     ensures valid { IsValid (with_copies part.rows part.rw part.ro) }
 {
@@ -261,13 +266,13 @@ fn abort(alloc: Global, entry: &mut Entry, at: u64) -> Result<(), AllocError>
 /// none the spawn is declined, for good.
 fn give_up(alloc: Global, entries: &mut Entries, spawn: SpawnId, at: u64) -> Result<(), AllocError>
     ensures ok { (name : List ℕ) (master : List ℕ) → OnOk result
-        (worker.known name master entries.new
-        ≡ (messages.aborted spawn at (worker.known name master entries.old)).next) }
+        (worker.state name master entries.new
+        ≡ (messages.on_abort spawn at (worker.state name master entries.old)).next) }
     ensures err { OnErr result (entries.new ≡ entries.old) }
 {
     match entries.place_of(spawn) {
         None => {
-            entries.push(Entry::declined(spawn, at))?;
+            entries.push(Entry::new_declined(spawn, at))?;
             Ok(())
         }
         Some(place) => abort(alloc, &mut entries.list[place], at),
@@ -275,11 +280,11 @@ fn give_up(alloc: Global, entries: &mut Entries, spawn: SpawnId, at: u64) -> Res
 }
 
 /// Closes the entry of a part that was given back, if it has come.
-fn take_answer(entries: &mut Entries, spawn: SpawnId, told: Result<QueueStatus, u16>)
-    ensures { (name : List ℕ) (master : List ℕ) → worker.known name master entries.new
-        ≡ (messages.answered spawn told (worker.known name master entries.old)).next }
+fn take_answer(entries: &mut Entries, spawn: SpawnId, response: Result<QueueStatus, u16>)
+    ensures { (name : List ℕ) (master : List ℕ) → worker.state name master entries.new
+        ≡ (messages.on_answer spawn response (worker.state name master entries.old)).next }
 {
-    if told.is_ok() {
+    if response.is_ok() {
         entries.close(spawn);
     }
 }
@@ -287,8 +292,8 @@ fn take_answer(entries: &mut Entries, spawn: SpawnId, told: Result<QueueStatus, 
 /// Takes what a message says that isn't refused. An answer takes no memory.
 fn take_body(alloc: Global, entries: &mut Entries, body: Body, at: u64) -> Result<(), AllocError>
     ensures ok { (name : List ℕ) (master : List ℕ) → OnOk result
-        (worker.known name master entries.new
-        ≡ (messages.taken body at (worker.known name master entries.old)).next) }
+        (worker.state name master entries.new
+        ≡ (messages.on_body body at (worker.state name master entries.old)).next) }
     ensures err { OnErr result (entries.new ≡ entries.old) }
     ensures valid { messages.IsValidBody body }
     ensures answers { replies.is_answer body ≡ true → IsOk result }
@@ -317,9 +322,9 @@ fn take_unless(
     at: u64,
 ) -> Result<(), AllocError>
     ensures ok { (name : List ℕ) (master : List ℕ) → OnOk result
-        (worker.known name master entries.new ≡ if refused
-        then worker.known name master entries.old
-        else (messages.taken body at (worker.known name master entries.old)).next) }
+        (worker.state name master entries.new ≡ if refused
+        then worker.state name master entries.old
+        else (messages.on_body body at (worker.state name master entries.old)).next) }
     ensures err { OnErr result (entries.new ≡ entries.old) }
     ensures valid { refused ≡ false → messages.IsValidBody body }
     ensures answers { replies.is_answer body ≡ true → IsOk result }
@@ -341,20 +346,20 @@ pub fn do_take(
     message: Message,
     at: u64,
 ) -> Result<Outcome, AllocError>
-    ensures state { OnOk result (worker.known name.now master.now entries.new
+    ensures state { OnOk result (worker.state name.now master.now entries.new
         ≡ (messages.take_step message at
-        (worker.known name.now master.now entries.old)).next) }
+        (worker.state name.now master.now entries.old)).next) }
     ensures reply { IfOk result (λ outcome. outcome.reply ≡ (messages.take_step message at
-        (worker.known name.now master.now entries.old)).reply) }
+        (worker.state name.now master.now entries.old)).reply) }
     ensures answer { IfOk result (λ outcome. outcome.answer ≡ (messages.take_step message at
-        (worker.known name.now master.now entries.old)).sent) }
+        (worker.state name.now master.now entries.old)).sent) }
     ensures err { OnErr result (entries.new ≡ entries.old) }
     ensures answers { replies.is_answer message.body ≡ true → IsOk result }
     ensures valid { OnOk result (messages.take_refusal message
-        (worker.known name.now master.now entries.old) ≡ None
+        (worker.state name.now master.now entries.old) ≡ None
         → messages.IsValidBody message.body) }
 {
-    let taken = judged(name, master, entries, &message);
+    let taken = checked_taken(name, master, entries, &message);
     let refused = taken.is_err();
     match outcome_of(alloc, name, &message, at, taken) {
         Ok(outcome) => take_unless(refused, alloc, entries, message.body, at).and(Ok(outcome)),

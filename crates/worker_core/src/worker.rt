@@ -20,13 +20,13 @@ pub struct Worker {
 }
 
 impl Model for Worker {
-    ghost use Rattle.worker_core.specs.Worker.{IsKept, Known, known};
+    ghost use Rattle.worker_core.specs.Worker.{IsConsistent, State, state};
 
-    ghost Value = { Known };
+    ghost Value = { State };
 
     ghost view = { λ a. record { name = a.name; master = a.master; entries = a.entries } };
 
-    ghost invariant = { λ a. IsKept (known a.name a.master a.entries) };
+    ghost invariant = { λ a. IsConsistent (state a.name a.master a.entries) };
 }
 
 impl Worker {
@@ -38,14 +38,14 @@ impl Worker {
     ghost use Rattle.worker_core.specs.Orders as orders;
     ghost use Rattle.worker_core.specs.Stored as stored;
     ghost use Rattle.worker_core.specs.Worker as worker;
-    ghost use Rattle.worker_core.specs.Worker.{IsKept};
+    ghost use Rattle.worker_core.specs.Worker.{IsConsistent};
 
     /// A worker of this name, with no entry, whose parts are its master's. Refuses `SameName` where
     /// the two names are equal (our own). Needs no memory.
     pub fn new(alloc: Global, name: Id, master: Id) -> Result<Worker, Refusal>
         // Proved: A worker begins with no entry; equal names, and nothing else, are refused.
         // By `ok`, `refused`, `only`.
-        ensures ok { IfOk result (λ w. w ≡ worker.known name master []) }
+        ensures ok { IfOk result (λ w. w ≡ worker.state name master []) }
         ensures refused { IsErrOf result Refusal.SameName ↔ (name ≡ master) }
         ensures only { IfErr result (λ e. e ≡ Refusal.SameName) }
     {
@@ -72,13 +72,13 @@ impl Worker {
     ) -> Result<Worker, Refusal>
         // Proved: Stored parts are taken just if some worker could have them.
         // By `ok`, `kept`, `taken`, `refused`, `memory`, `only`; `laws::a_kept_worker_is_stored`.
-        ensures ok { IfOk result (λ w. w ≡ worker.known name master entries.items) }
-        ensures kept { IfOk result (λ w. IsKept w) }
+        ensures ok { IfOk result (λ w. w ≡ worker.state name master entries.items) }
+        ensures kept { IfOk result (λ w. IsConsistent w) }
         ensures taken { OnOk result
-            (stored.is_worker (worker.known name master entries.items) ≡ true) }
+            (stored.is_worker (worker.state name master entries.items) ≡ true) }
         ensures refused { IsErrOf result Refusal.BadState
-            → stored.is_worker (worker.known name master entries.items) ≡ false }
-        ensures memory { stored.is_worker (worker.known name master entries.items) ≡ true
+            → stored.is_worker (worker.state name master entries.items) ≡ false }
+        ensures memory { stored.is_worker (worker.state name master entries.items) ≡ true
             → IfErr result (λ e. e ≡ Refusal.Memory) }
         ensures only { IfErr result (λ e. (e ≡ Refusal.BadState) ⊎ (e ≡ Refusal.Memory)) }
     {
@@ -118,7 +118,7 @@ impl Worker {
         // was declined, a finished one with the Status of its end.
         // By `entries`, `kept`; `worker::Worker::name`, `Worker::master`.
         ensures entries { result.now ≡ self.now.entries }
-        ensures kept { IsKept self.now }
+        ensures kept { IsConsistent self.now }
     {
         self.entries.as_slice()
     }
@@ -169,9 +169,10 @@ impl Worker {
     /// memory.
     pub fn taken_as(&self, body: &Body) -> Taken
         // Proved: What a message is taken as, and what its command is told, is told before.
-        // By `reply`, `told`.
-        ensures reply { (at : ℕ) → result.reply ≡ (messages.taken body.now at self.now).reply }
-        ensures told { (at : ℕ) → result.told ≡ (messages.taken body.now at self.now).told }
+        // By `reply`, `response`.
+        ensures reply { (at : ℕ) → result.reply ≡ (messages.on_body body.now at self.now).reply }
+        ensures response { (at : ℕ) → result.response
+            ≡ (messages.on_body body.now at self.now).response }
     {
         taken_as(&self.entries, body)
     }

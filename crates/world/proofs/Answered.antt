@@ -1,7 +1,7 @@
 -- What holds of a result holds as more is known.
 use Rattle.std.proofs.Common.{◌≡◌, List, Option, Some, None, IfOk, IfSome, IsErr, Result, Ok, Err, OnOk, OnErr, refl, subst, sym}
 use Rattle.std.proofs.lemmas.Bool.{true≢false}
-use Rattle.world.specs.Settling.{settled_messages, settled_state, with_sent}
+use Rattle.world.specs.Settling.{messages_left, state_left, with_sent}
 use Rattle.world_items.specs.declared.stop.Stop.{Stop}
 use Rattle.world_items.specs.declared.stop.Stop.TheVariants.{Run, BeforeSave, BeforeSend}
 
@@ -29,13 +29,13 @@ on_err_by (Err f) (Ok y) P is p = tt
 on_err_by (Err f) (Err e) P is p = p
 
 -- a step that isn't lost is stored
-pub stored_so : {S : Type 0} (stop : Stop) (old next : S) → ¬ (stop ≡ BeforeSave) → next ≡ settled_state stop old next
+pub stored_so : {S : Type 0} (stop : Stop) (old next : S) → ¬ (stop ≡ BeforeSave) → next ≡ state_left stop old next
 stored_so Run old next kept = refl
 stored_so BeforeSave old next kept = absurd (kept refl)
 stored_so BeforeSend old next kept = refl
 
 -- and with no stop its message is sent
-pub sent_so : {M : Type 0} (stop : Stop) (messages : List M) (sent : Option M) → ¬ (stop ≡ BeforeSave) → ¬ (stop ≡ BeforeSend) → with_sent messages sent ≡ settled_messages stop messages sent
+pub sent_so : {M : Type 0} (stop : Stop) (messages : List M) (sent : Option M) → ¬ (stop ≡ BeforeSave) → ¬ (stop ≡ BeforeSend) → with_sent messages sent ≡ messages_left stop messages sent
 sent_so Run messages sent kept runs = refl
 sent_so BeforeSave messages sent kept runs = absurd (kept refl)
 sent_so BeforeSend messages sent kept runs = absurd (runs refl)

@@ -23,7 +23,7 @@ use Rattle.worker_core.specs.declared.stage.Stage.{Stage}
 use Rattle.worker_core.specs.declared.stage.Stage.TheVariants as worker_stage
 use Rattle.world.proofs.Agreeing.{Agrees, StepsAgree}
 use Rattle.world.proofs.Cases.{split, when_true}
-use Rattle.world.proofs.Doors.{answered_entry, master_refuses_nothing, worker_refuses_nothing}
+use Rattle.world.proofs.MessagesTaken.{answered_entry, master_refuses_nothing, worker_refuses_nothing}
 use Rattle.world.proofs.EntryStored.{row_stored, spawns_stay, spawns_stored}
 use Rattle.world.proofs.PartsTaken.{held_claimed}
 use Rattle.world.proofs.Resends.{spawn_found}
@@ -35,10 +35,10 @@ use Rattle.world.specs.Messages.{IsInOrder, entry_for}
 use Rattle.world.specs.Shop as plain
 use Rattle.world.specs.ShopActs as acts
 use Rattle.world.specs.ShopSteps as shop
-use Rattle.world.specs.ShopSteps.{replies}
+use Rattle.world.specs.ShopSteps.{quiet_step}
 use Rattle.world.specs.Showing.{phase_shown, shop_shown, spawn_shown, tag_of}
-use Rattle.world.specs.State.{IsKept, State}
-use Rattle.controller.specs.Step.{Step, answering}
+use Rattle.world.specs.State.{IsConsistent, State}
+use Rattle.controller.specs.Step.{Step, message_step}
 use Rattle.world_items.specs.declared.word.Word.TheVariants.{NoMessage}
 use Rattle.master_core.specs.Messages.{take_step as taken_by_master}
 use Rattle.worker_core.specs.Messages.{take_step as taken_by_worker}
@@ -49,13 +49,13 @@ abbrev pub answer : List ℕ → List ℕ → ℕ → Command → ℕ → Result
 answer sender receiver sent given s told = record { sender = sender; receiver = receiver; at = sent; body = Answer given s told }
 
 -- the master notes that of a part that went out
-pub submit_is_answered : (w : State) (sender receiver : List ℕ) (sent s : ℕ) (told : Result QueueStatus ℕ) (at : ℕ) → IsKept w → IsInOrder w.controllers (answer sender receiver sent command.Submit s told)
-    → Agrees (master_moved w.controllers (taken_by_master (answer sender receiver sent command.Submit s told) at w.controllers.master)) (replies (reply.Noted s) (shop_shown w.controllers))
+pub submit_is_answered : (w : State) (sender receiver : List ℕ) (sent s : ℕ) (told : Result QueueStatus ℕ) (at : ℕ) → IsConsistent w → IsInOrder w.controllers (answer sender receiver sent command.Submit s told)
+    → Agrees (master_moved w.controllers (taken_by_master (answer sender receiver sent command.Submit s told) at w.controllers.master)) (quiet_step (reply.Noted s) (shop_shown w.controllers))
 submit_is_answered w sender receiver sent s told at ok good =
     let c = w.controllers in
     let m = answer sender receiver sent command.Submit s told in
     let none = master_refuses_nothing c m ok.recorded ok.back refl good in
-    subst (λ why. Agrees (master_moved c (answering c.master.name m at why c.master (master_messages.noted s c.master))) (replies (reply.Noted s) (shop_shown c))) (sym none)
+    subst (λ why. Agrees (master_moved c (message_step c.master.name m at why c.master (master_messages.note_taking s c.master))) (quiet_step (reply.Noted s) (shop_shown c))) (sym none)
     (record { reply = refl; next = refl; sent = refl })
 
 -- what tells of success tells a Status
@@ -66,11 +66,11 @@ acknowledged (Err reason) e = cc
 -- ---- an answer to the worker
 
 -- the worker's step, by why the answer is refused and by what it tells
-abbrev step_by : worker.Known → Message → ℕ → ℕ → Option Refusal → Result QueueStatus ℕ → Step worker.Known Message
-step_by v m s at why told = answering v.name m at why v (worker_messages.answered s told v)
+abbrev step_by : worker.State → Message → ℕ → ℕ → Option Refusal → Result QueueStatus ℕ → Step worker.State Message
+step_by v m s at why told = message_step v.name m at why v (worker_messages.on_answer s told v)
 
 -- an entry on which the work has ended is closed then
-closed_by : (stage : Stage) (e : Entry) → e.phase ≡ stage → worker.is_ended_stage stage ≡ true → worker.is_closed (worker.closed_in stage e) ≡ true
+closed_by : (stage : Stage) (e : Entry) → e.phase ≡ stage → worker.is_ended_stage stage ≡ true → worker.is_closed (worker.closed_entry_in stage e) ≡ true
 closed_by worker_stage.Open e is ended = absurd (true≢false (sym ended))
 closed_by (worker_stage.Done how) e is ended = refl
 closed_by (worker_stage.Closed how) e is ended = ap worker.is_closed_stage is
@@ -81,13 +81,13 @@ merged_so true = refl
 merged_so false = refl
 
 -- an answer of success closes the entry of a spawn that isn't out, and the shop is the same but for its phase
-closes : (w : State) (v : worker.Known) (m : Message) (s at : ℕ) (e : Entry) (status : QueueStatus) → IsKept w → worker_of w.controllers.workers v.name ≡ Some v → worker.entry_of v.entries s ≡ Some e → worker.is_ended e ≡ true → (h : HasRecord w.controllers v.name s e) → is_out h.spawn ≡ false → ((told : Result QueueStatus ℕ) → option_map tag_of (answer_to v.name m at told) ≡ None)
-    → Agrees (worker_moved w.controllers v (step_by v m s at None (Ok status))) (shop.back_acknowledged (shop_shown w.controllers) (spawn_shown w.controllers h.spawn))
+closes : (w : State) (v : worker.State) (m : Message) (s at : ℕ) (e : Entry) (status : QueueStatus) → IsConsistent w → worker_of w.controllers.workers v.name ≡ Some v → worker.entry_of v.entries s ≡ Some e → worker.is_ended e ≡ true → (h : HasRecord w.controllers v.name s e) → is_out h.spawn ≡ false → ((told : Result QueueStatus ℕ) → option_map tag_of (answer_to v.name m at told) ≡ None)
+    → Agrees (worker_moved w.controllers v (step_by v m s at None (Ok status))) (shop.on_return_answer (shop_shown w.controllers) (spawn_shown w.controllers h.spawn))
 closes w v m s at e status ok found here ended h back unanswered =
     let c = w.controllers in
     let p = shop_shown c in
     let r = h.spawn in
-    let next : worker.Known = record v { entries = worker.with_entry s worker.closed_entry v.entries } in
+    let next : worker.State = record v { entries = worker.with_entry s worker.closed_entry v.entries } in
     let new = worker.closed_entry e in
     let stored = changed_stored w v s e worker.closed_entry closed_number ok found here h in
     let merged : r.phase ≡ recorded.Merged = merged_of r.phase e back (h.back back) (ended_shut e ended).1 in
@@ -97,11 +97,11 @@ closes w v m s at e status ok found here ended h back unanswered =
     let o = master.holder c.master x in
     row_stored c v.name s next new r stored (λ row. row) x o (λ held. absurd (true≢false (sym (held_claimed c.master s r x ok.master h.recorded held).3 ∙ back))) (λ other. refl) in
     let said : reply.Acked s ≡ reply.Acked r.id = ap (λ n. reply.Acked n) (sym h.number) in
-    let told = (worker_messages.answered s (Ok status) v).told in
-    subst (λ b. Agrees (worker_moved c v (step_by v m s at None (Ok status))) (shop.replies (reply.Acked r.id) (cond b (acts.closed r.id p) p)))
+    let told = (worker_messages.on_answer s (Ok status) v).response in
+    subst (λ b. Agrees (worker_moved c v (step_by v m s at None (Ok status))) (shop.quiet_step (reply.Acked r.id) (cond b (acts.after_close r.id p) p)))
     (sym (ap plain.is_merged was ∙ merged_so (worker.is_closed e)))
     (split (worker.is_closed e)
-    (λ closed. subst (λ b. Agrees (worker_moved c v (step_by v m s at None (Ok status))) (shop.replies (reply.Acked r.id) (cond (not b) (acts.closed r.id p) p))) (sym closed)
+    (λ closed. subst (λ b. Agrees (worker_moved c v (step_by v m s at None (Ok status))) (shop.quiet_step (reply.Acked r.id) (cond (not b) (acts.after_close r.id p) p))) (sym closed)
     (record {
       reply = ap Ok said;
       sent = unanswered told;
@@ -117,7 +117,7 @@ closes w v m s at e status ok found here ended h back unanswered =
             spawns = spawns_stay c v.name s next new r stored (is ∙ sym (was ∙ when_true (worker.is_closed e) plain.Closed plain.Merged closed));
           });
     }))
-    (λ open'. subst (λ b. Agrees (worker_moved c v (step_by v m s at None (Ok status))) (shop.replies (reply.Acked r.id) (cond (not b) (acts.closed r.id p) p))) (sym open')
+    (λ open'. subst (λ b. Agrees (worker_moved c v (step_by v m s at None (Ok status))) (shop.quiet_step (reply.Acked r.id) (cond (not b) (acts.after_close r.id p) p))) (sym open')
     (record {
       reply = ap Ok said;
       sent = unanswered told;
@@ -135,9 +135,9 @@ closes w v m s at e status ok found here ended h back unanswered =
     })))
 
 -- the worker acknowledges that of a part that came back: none was refused
-pub return_is_answered : (w : State) (v : worker.Known) (sender receiver : List ℕ) (sent s : ℕ) (told : Result QueueStatus ℕ) (at : ℕ) → IsKept w → worker_of w.controllers.workers receiver ≡ Some v → v.name ≡ receiver → v.master ≡ w.controllers.master.name
+pub return_is_answered : (w : State) (v : worker.State) (sender receiver : List ℕ) (sent s : ℕ) (told : Result QueueStatus ℕ) (at : ℕ) → IsConsistent w → worker_of w.controllers.workers receiver ≡ Some v → v.name ≡ receiver → v.master ≡ w.controllers.master.name
     → IsInOrder w.controllers (answer sender receiver sent command.Return s told)
-    → StepsAgree (Ok (worker_moved w.controllers v (taken_by_worker (answer sender receiver sent command.Return s told) at v))) (shop.message_comes at (shop_shown w.controllers) (shop.ToReturn s))
+    → StepsAgree (Ok (worker_moved w.controllers v (taken_by_worker (answer sender receiver sent command.Return s told) at v))) (shop.on_message at (shop_shown w.controllers) (shop.ToReturn s))
 return_is_answered w v sender receiver sent s told at ok found named knows good =
     let c = w.controllers in
     let p = shop_shown c in
@@ -151,6 +151,6 @@ return_is_answered w v sender receiver sent s told at ok found named knows good 
     let says = acknowledged told good.says.0 in
     let back : is_out h.spawn ≡ false = ap is_out (same_found h.spawn good.spawn (master.record_of c.master.records s) h.recorded good.recorded) ∙ good.says.1 in
     subst (StepsAgree (Ok (worker_moved c v (taken_by_worker m at v))))
-    (sym (ap (λ o. option_map_or (λ b. Ok (shop.back_acknowledged p b)) o (Err NoMessage)) (spawn_found c s ∙ ap (option_map (spawn_shown c)) h.recorded)))
-    (subst (λ why. Agrees (worker_moved c v (step_by v m s at why told)) (shop.back_acknowledged p a)) (sym none)
-    (subst (λ t. Agrees (worker_moved c v (step_by v m s at None t)) (shop.back_acknowledged p a)) (sym says.1) (closes w v m s at e says.0 ok own there.1 there.2 h back (λ t. refl))))
+    (sym (ap (λ o. option_map_or (λ b. Ok (shop.on_return_answer p b)) o (Err NoMessage)) (spawn_found c s ∙ ap (option_map (spawn_shown c)) h.recorded)))
+    (subst (λ why. Agrees (worker_moved c v (step_by v m s at why told)) (shop.on_return_answer p a)) (sym none)
+    (subst (λ t. Agrees (worker_moved c v (step_by v m s at None t)) (shop.on_return_answer p a)) (sym says.1) (closes w v m s at e says.0 ok own there.1 there.2 h back (λ t. refl))))

@@ -6,11 +6,11 @@ use Rattle.std.specs.Option.{option_and_then, option_map, option_map_or}
 use Rattle.ticket_items.proofs.Places.{same_found}
 use Rattle.ticket_rows.proofs.AtHome.{find-passes}
 use Rattle.ticket_rows.specs.Place.{Place, place_at, places}
-use Rattle.ticket_tree.specs.Part.{Copied}
+use Rattle.ticket_tree.specs.Part.{PartCopy}
 use Rattle.spawn.proofs.Lawful.{claim_is_held, held_is_claimed, placed}
 use Rattle.spawn.specs.Claim.{is_claimed}
 use Rattle.spawn.specs.Records.{is_out, is_out_phase}
-use Rattle.spawn.specs.Table.{holder_at, holding, holds, is_masters}
+use Rattle.spawn.specs.Table.{holder_at, holding_record, holds, is_masters}
 use Rattle.spawn.specs.declared.records.phase.Phase as records
 use Rattle.spawn.specs.declared.records.phase.Phase.TheVariants as recorded
 use Rattle.spawn.specs.declared.records.spawn_rec.SpawnRec.{SpawnRec}
@@ -27,8 +27,8 @@ use Rattle.worker_core.proofs.Refusals.{of_open, opened}
 use Rattle.worker_core.specs.Worker as worker
 use Rattle.worker_core.specs.declared.entry.Entry.{Entry}
 use Rattle.world.proofs.AlwaysKept.{kept_after, kept_after_all}
-use Rattle.world.proofs.Back.{back_shut, one_record}
-use Rattle.world.proofs.Doors.{found_through}
+use Rattle.world.proofs.EndedEntries.{back_shut, one_record}
+use Rattle.world.proofs.MessagesTaken.{found_through}
 use Rattle.world.proofs.Cases.{made_of, when_true}
 use Rattle.world.proofs.InPart.{fits_has, part_has}
 use Rattle.world.proofs.Resends.{spawn_found}
@@ -36,12 +36,12 @@ use Rattle.world.proofs.Stored.{and_found, found_and}
 use Rattle.world.proofs.TakenSpawns.{phase_out}
 use Rattle.world.specs.Changing.{Changer, Holds, MayChange, by_entry, by_master}
 use Rattle.world.specs.Controllers.{entry_at, is_named, worker_of}
-use Rattle.world.specs.Happening.{IsUnknown, after_all, settled, step_of}
+use Rattle.world.specs.Happening.{IsUnknown, after_all, next_state, step_of}
 use Rattle.world.specs.Laws.{HoldersMayChange, NoTwoMayChangeOne}
 use Rattle.world.specs.Messages.{AreRecorded, HasComeBack, IsBack, IsRecorded, entry_for}
 use Rattle.world.specs.Shop.{Closed, Declined, Done, Merged, Open, SpawnState, spawn_of}
 use Rattle.world.specs.Showing.{phase_shown, shop_shown, shows, spawn_shown}
-use Rattle.world.specs.State.{IsKept, State}
+use Rattle.world.specs.State.{IsConsistent, State}
 use Rattle.world_items.specs.declared.event.Event.{Event}
 use Rattle.world_items.specs.declared.stop.Stop.{Stop}
 use Rattle.world_items.specs.declared.stop.Stop.TheVariants.{BeforeSave, BeforeSend}
@@ -51,7 +51,7 @@ use Rattle.world_items.specs.declared.what.What.{What}
 
 -- an open entry of a spawn at the worker of a name: the record of the spawn names the worker, the spawn is out, and the part of the entry has what it claims
 record IsOpenThere (w : State) (name : List ℕ) (s : ℕ) (e : Entry) : Type 0 where
-  part : Copied
+  part : PartCopy
   has_part : worker.open_part e ≡ Some part
   spawn : SpawnRec
   recorded : master.record_of w.controllers.master.records s ≡ Some spawn
@@ -63,7 +63,7 @@ record IsOpenThere (w : State) (name : List ℕ) (s : ℕ) (e : Entry) : Type 0 
   shows : (x : List ℕ) → worker.has part x ≡ option_map_or (is_claimed spawn.node spawn.rw) (place_at (places w.controllers.master.ticket.rows) x) false
 
 -- where the part was put in the entry isn't open
-not_back : (w : State) (name : List ℕ) (s : ℕ) (e : Entry) (r : SpawnRec) → IsKept w → entry_at w.controllers.workers name s ≡ Some e → worker.is_open e ≡ true → master.record_of w.controllers.master.records s ≡ Some r → r.worker ≡ name → is_out r ≡ false → ⊥
+not_back : (w : State) (name : List ℕ) (s : ℕ) (e : Entry) (r : SpawnRec) → IsConsistent w → entry_at w.controllers.workers name s ≡ Some e → worker.is_open e ≡ true → master.record_of w.controllers.master.records s ≡ Some r → r.worker ≡ name → is_out r ≡ false → ⊥
 not_back w name s e r ok found open' recorded named isn't =
     let c = w.controllers in
     let back : HasComeBack c r = found_holds (HasComeBack c) (master.is_of s) c.master.records r recorded ok.back in
@@ -73,7 +73,7 @@ not_back w name s e r ok found open' recorded named isn't =
     let same : e ≡ ended.0 = same_found e ended.0 (entry_for c r) at ended.1 in
     true≢false (sym open' ∙ ap (λ (y : Entry). worker.is_open y) same ∙ back_shut r.phase ended.0 isn't ended.2)
 
-open_there : (w : State) (name : List ℕ) (s : ℕ) (e : Entry) → IsKept w → entry_at w.controllers.workers name s ≡ Some e → worker.is_open e ≡ true → IsOpenThere w name s e
+open_there : (w : State) (name : List ℕ) (s : ℕ) (e : Entry) → IsConsistent w → entry_at w.controllers.workers name s ≡ Some e → worker.is_open e ≡ true → IsOpenThere w name s e
 open_there w name s e ok found open' =
     let c = w.controllers in
     let records = c.master.records in
@@ -108,7 +108,7 @@ some_passes : {X : Type 0} (f : X → Bool) (o : Option X) → option_map_or f o
 some_passes f None e = absurd (true≢false (sym e))
 some_passes f (Some x) e = (x, refl, e)
 
-held_so : (w : State) (name : List ℕ) (s : ℕ) (e : Entry) (x : List ℕ) → IsKept w → (at : IsOpenThere w name s e) → worker.has at.part x ≡ true → master.holder w.controllers.master x ≡ Some (Spawn s)
+held_so : (w : State) (name : List ℕ) (s : ℕ) (e : Entry) (x : List ℕ) → IsConsistent w → (at : IsOpenThere w name s e) → worker.has at.part x ≡ true → master.holder w.controllers.master x ≡ Some (Spawn s)
 held_so w name s e x ok at here =
     let m = w.controllers.master in
     let r = at.spawn in
@@ -125,12 +125,12 @@ holding_so : (s : ℕ) (o : Option SpawnRec) → option_map_or (λ (q : SpawnRec
 holding_so s None e = cc
 holding_so s (Some q) e = (q, refl, cc)
 
-has_so : (w : State) (name : List ℕ) (s : ℕ) (e : Entry) (x : List ℕ) → IsKept w → (at : IsOpenThere w name s e) → master.holder w.controllers.master x ≡ Some (Spawn s) → worker.has at.part x ≡ true
+has_so : (w : State) (name : List ℕ) (s : ℕ) (e : Entry) (x : List ℕ) → IsConsistent w → (at : IsOpenThere w name s e) → master.holder w.controllers.master x ≡ Some (Spawn s) → worker.has at.part x ≡ true
 has_so w name s e x ok at held =
     let m = w.controllers.master in
     let r = at.spawn in
     let stands = held_place m.records s (place_at (places m.ticket.rows) x) held in
-    let by = holding_so s (holding m.records stands.0) stands.2 in
+    let by = holding_so s (holding_record m.records stands.0) stands.2 in
     let q = by.0 in
     let place = placed (holds stands.0) m.records q by.1 in
     let same : q ≡ r = one_record m.records place.place s q r ok.master.numbered place.there at.recorded (by.2 ∙ sym at.number) in
@@ -148,11 +148,11 @@ masters (Some (Spawn s)) e = absurd (true≢false (sym e))
 record Through (w : State) (name : List ℕ) (s : ℕ) (x : List ℕ) : Type 0 where
   entry : Entry
   found : entry_at w.controllers.workers name s ≡ Some entry
-  part : Copied
+  part : PartCopy
   opened : worker.open_part entry ≡ Some part
   has_it : worker.has part x ≡ true
 
-opened_of : (o : Option Entry) (p : Copied) → option_and_then worker.open_part o ≡ Some p → (e : Entry) × (o ≡ Some e) × (worker.open_part e ≡ Some p)
+opened_of : (o : Option Entry) (p : PartCopy) → option_and_then worker.open_part o ≡ Some p → (e : Entry) × (o ≡ Some e) × (worker.open_part e ≡ Some p)
 opened_of None p is = cc
 opened_of (Some e) p is = (e, refl, is)
 
@@ -160,10 +160,10 @@ through : (w : State) (name : List ℕ) (s : ℕ) (x : List ℕ) → MayChange w
 through w name s x may =
     let o = worker_of w.controllers.workers name in
     let at = and_found _ o may in
-    let v : worker.Known = at.0 in
+    let v : worker.State = at.0 in
     let got = some_passes (λ p. worker.has p x) (option_and_then worker.open_part (worker.entry_of v.entries s)) at.2 in
     let by = opened_of (worker.entry_of v.entries s) got.0 got.1 in
-    record { entry = by.0; found = ap (option_and_then (λ (u : worker.Known). worker.entry_of u.entries s)) at.1 ∙ by.1; part = got.0; opened = by.2; has_it = got.2 }
+    record { entry = by.0; found = ap (option_and_then (λ (u : worker.State). worker.entry_of u.entries s)) at.1 ∙ by.1; part = got.0; opened = by.2; has_it = got.2 }
 
 may_through : (w : State) (name : List ℕ) (s : ℕ) (x : List ℕ) → Through w name s x → MayChange w (by_entry name s) x
 may_through w name s x by =
@@ -172,7 +172,7 @@ may_through w name s x by =
     found_and _ o at.0 at.1 (may_change_here at.0.entries s x by.entry by.part at.2 by.opened by.has_it)
 
 -- it is held then
-held_through : (w : State) (name : List ℕ) (s : ℕ) (x : List ℕ) → IsKept w → Through w name s x → master.holder w.controllers.master x ≡ Some (Spawn s)
+held_through : (w : State) (name : List ℕ) (s : ℕ) (x : List ℕ) → IsConsistent w → Through w name s x → master.holder w.controllers.master x ≡ Some (Spawn s)
 held_through w name s x ok by =
     let at = open_there w name s by.entry ok by.found (of_open by.entry by.part by.opened).0 in
     held_so w name s by.entry x ok at (subst (λ p. worker.has p x ≡ true) (same_found by.part at.part (worker.open_part by.entry) by.opened at.has_part) by.has_it)
@@ -197,7 +197,7 @@ open_shown recorded.Out (Some entry) e = (refl, entry_open (worker.is_declined e
     entry_open false false e = cc
 
 -- the spawn of an open entry is shown as open, at its worker
-shown_open : (w : State) (name : List ℕ) (s : ℕ) (e : Entry) → IsKept w → entry_at w.controllers.workers name s ≡ Some e → worker.is_open e ≡ true → IsSomeAnd (spawn_of s (shop_shown w.controllers)) (λ a. (a.worker ≡ name) × (a.phase ≡ Open))
+shown_open : (w : State) (name : List ℕ) (s : ℕ) (e : Entry) → IsConsistent w → entry_at w.controllers.workers name s ≡ Some e → worker.is_open e ≡ true → IsSomeAnd (spawn_of s (shop_shown w.controllers)) (λ a. (a.worker ≡ name) × (a.phase ≡ Open))
 shown_open w name s e ok found is_open' =
     let c = w.controllers in
     let at = open_there w name s e ok found is_open' in
@@ -222,12 +222,12 @@ open_entry w name s shown =
 
 -- ---- the laws
 
-to_holds : (w : State) (name : List ℕ) (s : ℕ) (x : List ℕ) → IsKept w → MayChange w (by_entry name s) x → Holds (shop_shown w.controllers) (by_entry name s) x
+to_holds : (w : State) (name : List ℕ) (s : ℕ) (x : List ℕ) → IsConsistent w → MayChange w (by_entry name s) x → Holds (shop_shown w.controllers) (by_entry name s) x
 to_holds w name s x ok may =
     let by = through w name s x may in
     (held_through w name s x ok by, shown_open w name s by.entry ok by.found (of_open by.entry by.part by.opened).0)
 
-from_holds : (w : State) (name : List ℕ) (s : ℕ) (x : List ℕ) → IsKept w → Holds (shop_shown w.controllers) (by_entry name s) x → MayChange w (by_entry name s) x
+from_holds : (w : State) (name : List ℕ) (s : ℕ) (x : List ℕ) → IsConsistent w → Holds (shop_shown w.controllers) (by_entry name s) x → MayChange w (by_entry name s) x
 from_holds w name s x ok holds =
     let at = and_found _ (entry_at w.controllers.workers name s) (open_entry w name s holds.1) in
     let e : Entry = at.0 in
@@ -246,7 +246,7 @@ not_both o s a b = cc
 one_spawn : (o : Option Holder) (s t : ℕ) → o ≡ Some (Spawn s) → o ≡ Some (Spawn t) → s ≡ t
 one_spawn o s t a b = cc
 
-one_entry : (w : State) (n m : List ℕ) (s t : ℕ) (x : List ℕ) → IsKept w → Through w n s x → Through w m t x → by_entry n s ≡ by_entry m t
+one_entry : (w : State) (n m : List ℕ) (s t : ℕ) (x : List ℕ) → IsConsistent w → Through w n s x → Through w m t x → by_entry n s ≡ by_entry m t
 one_entry w n m s t x ok a b =
     let records = w.controllers.master.records in
     let one : s ≡ t = one_spawn (master.holder w.controllers.master x) s t (held_through w n s x ok a) (held_through w m t x ok b) in
@@ -272,21 +272,21 @@ no_two_may_change_one w (by_entry n s) (by_entry m t) x ok a b = one_entry w n m
 abbrev pub Alone : State → Type 0
 Alone w = (c d : Changer) (x : List ℕ) → MayChange w c x → MayChange w d x → c ≡ d
 
-pub alone : (w : State) → IsKept w → Alone w
+pub alone : (w : State) → IsConsistent w → Alone w
 alone w ok c d x a b = no_two_may_change_one w c d x ok a b
 
 -- each may change of this exactly what it holds
 abbrev pub ByHolders : State → Type 0
 ByHolders w = (c : Changer) (x : List ℕ) → MayChange w c x ↔ Holds (shows w).shop c x
 
-pub by_holders : (w : State) → IsKept w → ByHolders w
+pub by_holders : (w : State) → IsConsistent w → ByHolders w
 by_holders w ok c x = holders_may_change w c x ok
 
 -- where it isn't known how far an event came, its controller stopped in it
-pub kept_then : {A E : Type 0} (r : Result A E) (what : What) (at : ℕ) (stop : Stop) (w now : State) → IsKept w → OnOk r (now ≡ settled stop w (step_of what at w)) → OnErr r (IsUnknown w (step_of what at w) now) → IsKept now
-kept_then (Ok a) what at stop w now ok is unknown = subst IsKept (sym is) (kept_after (record { what = what; at = at; stop = stop }) w ok)
-kept_then (Err e) what at stop w now ok is (inl lost) = subst IsKept (sym lost) (kept_after (record { what = what; at = at; stop = BeforeSave }) w ok)
-kept_then (Err e) what at stop w now ok is (inr unsent) = subst IsKept (sym unsent) (kept_after (record { what = what; at = at; stop = BeforeSend }) w ok)
+pub kept_then : {A E : Type 0} (r : Result A E) (what : What) (at : ℕ) (stop : Stop) (w now : State) → IsConsistent w → OnOk r (now ≡ next_state stop w (step_of what at w)) → OnErr r (IsUnknown w (step_of what at w) now) → IsConsistent now
+kept_then (Ok a) what at stop w now ok is unknown = subst IsConsistent (sym is) (kept_after (record { what = what; at = at; stop = stop }) w ok)
+kept_then (Err e) what at stop w now ok is (inl lost) = subst IsConsistent (sym lost) (kept_after (record { what = what; at = at; stop = BeforeSave }) w ok)
+kept_then (Err e) what at stop w now ok is (inr unsent) = subst IsConsistent (sym unsent) (kept_after (record { what = what; at = at; stop = BeforeSend }) w ok)
 
-pub kept_then_all : (events : List Event) (w now : State) → IsKept w → now ≡ after_all events w → IsKept now
-kept_then_all events w now ok is = subst IsKept (sym is) (kept_after_all events w ok)
+pub kept_then_all : (events : List Event) (w now : State) → IsConsistent w → now ≡ after_all events w → IsConsistent now
+kept_then_all events w now ok is = subst IsConsistent (sym is) (kept_after_all events w ok)

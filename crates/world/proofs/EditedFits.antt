@@ -13,9 +13,9 @@ use Rattle.ticket_items.specs.declared.node_row.NodeRow.{NodeRow}
 use Rattle.ticket_items.specs.declared.resource.Resource.{Resource}
 use Rattle.ticket_items.specs.Edit.{is_structural}
 use Rattle.ticket_rows.specs.Edit.{node_after, resource_after}
-use Rattle.ticket_rows.specs.Place.{fixed}
+use Rattle.ticket_rows.specs.Place.{named_thing}
 use Rattle.ticket_rows.specs.Ticket.{Job}
-use Rattle.ticket_tree.specs.Part.{Copied, edited_part}
+use Rattle.ticket_tree.specs.Part.{PartCopy, edited_part}
 use Rattle.spawn.specs.Parts.{part_for}
 use Rattle.spawn.specs.declared.records.spawn_rec.SpawnRec.{SpawnRec}
 use Rattle.merge.specs.Shape.{Fits, first_audits, shape}
@@ -42,11 +42,11 @@ first_stay g keeps (o ∷ olds) (r ∷ rows) e =
     ap (λ x. x ∷ map first_audits (zip olds (map g rows))) (keeps.audits_stay o.audits r parts.0) ∙ ap (λ xs. o.audits ∷ xs) (first_stay g keeps olds rows parts.1)
 
 -- resources that keep their ids, names and Classes
-fixed_stay : (x : List ℕ) (f : Resource → Resource) → ((y : Resource) → fixed (f y) ≡ fixed y) → (pool : List Resource) → map fixed (with_item x f pool) ≡ map fixed pool
+fixed_stay : (x : List ℕ) (f : Resource → Resource) → ((y : Resource) → named_thing (f y) ≡ named_thing y) → (pool : List Resource) → map named_thing (with_item x f pool) ≡ map named_thing pool
 fixed_stay x f keeps [] = refl
-fixed_stay x f keeps (y ∷ pool) = ap (λ s. s ∷ map fixed (with_item x f pool)) (here (bytes_eq y.id x)) ∙ ap (λ ss. fixed y ∷ ss) (fixed_stay x f keeps pool)
+fixed_stay x f keeps (y ∷ pool) = ap (λ s. s ∷ map named_thing (with_item x f pool)) (here (bytes_eq y.id x)) ∙ ap (λ ss. named_thing y ∷ ss) (fixed_stay x f keeps pool)
   where
-    here : (b : Bool) → fixed (cond b (f y) y) ≡ fixed y
+    here : (b : Bool) → named_thing (cond b (f y) y) ≡ named_thing y
     here true = keeps y
     here false = refl
 
@@ -63,7 +63,7 @@ at_row x f keeps = record { shape_stays = λ r. shape_here (bytes_eq r.id x) r; 
     audits_here true first r e = keeps.audits_stay first r e
     audits_here false first r e = e
 
-in_pools : (x : List ℕ) (f : Resource → Resource) → ((y : Resource) → fixed (f y) ≡ fixed y) → KeepsShape (λ r. record r { resources = with_item x f r.resources })
+in_pools : (x : List ℕ) (f : Resource → Resource) → ((y : Resource) → named_thing (f y) ≡ named_thing y) → KeepsShape (λ r. record r { resources = with_item x f r.resources })
 in_pools x f keeps =
     record {
       shape_stays = λ r. ap (λ pool. record (shape r) { pool = pool }) (fixed_stay x f keeps r.resources);
@@ -78,7 +78,7 @@ begins_still first audits more e =
 -- ---- a part that fits
 
 -- a part whose rows and copies keep their shape fits as it did
-fits_still : (t : Job) (r : SpawnRec) (p q : Copied) (g : NodeRow → NodeRow) → KeepsShape g → Fits t r p → q.job_id ≡ p.job_id → q.spawn_id ≡ p.spawn_id → q.rows ≡ map g p.rows → map fixed q.rw ≡ map fixed p.rw → Fits t r q
+fits_still : (t : Job) (r : SpawnRec) (p q : PartCopy) (g : NodeRow → NodeRow) → KeepsShape g → Fits t r p → q.job_id ≡ p.job_id → q.spawn_id ≡ p.spawn_id → q.rows ≡ map g p.rows → map named_thing q.rw ≡ map named_thing p.rw → Fits t r q
 fits_still t r p q g keeps fits job spawn rows rw =
     record {
       job = job ∙ fits.job;
@@ -89,7 +89,7 @@ fits_still t r p q g keeps fits job spawn rows rw =
     }
 
 -- an edit that isn't structural leaves it so
-pub edited_fits : (e : Edit) (at : ℕ) (t : Job) (r : SpawnRec) (p : Copied) → is_structural e ≡ false → Fits t r p → Fits t r (edited_part e at p)
+pub edited_fits : (e : Edit) (at : ℕ) (t : Job) (r : SpawnRec) (p : PartCopy) → is_structural e ≡ false → Fits t r p → Fits t r (edited_part e at p)
 edited_fits (SetStatus n status) at t r p plain fits = fits_still t r p _ _ (at_row n (node_after (SetStatus n status) at) (record { shape_stays = λ x. refl; audits_stay = λ first x e. e })) fits refl refl refl refl
 edited_fits (SetAttr n name value) at t r p plain fits = fits_still t r p _ _ (at_row n (node_after (SetAttr n name value) at) (record { shape_stays = λ x. refl; audits_stay = λ first x e. e })) fits refl refl refl refl
 edited_fits (SetResStatus x status) at t r p plain fits =
@@ -103,13 +103,13 @@ edited_fits (AddResource n x) at t r p plain fits = absurd (true≢false plain)
 edited_fits (AddLink n link) at t r p plain fits = absurd (true≢false plain)
 
 -- nor does it matter to it what becomes of the ticket while the part that is made of that stays
-pub fits_later : (t u : Job) (r : SpawnRec) (p : Copied) → part_for u r ≡ part_for t r → Fits t r p → Fits u r p
+pub fits_later : (t u : Job) (r : SpawnRec) (p : PartCopy) → part_for u r ≡ part_for t r → Fits t r p → Fits u r p
 fits_later t u r p same fits =
     let back = sym same in
     record {
-      job = fits.job ∙ ap (λ (q : Copied). q.job_id) back;
+      job = fits.job ∙ ap (λ (q : PartCopy). q.job_id) back;
       spawn = fits.spawn;
-      rows = fits.rows ∙ ap (λ (q : Copied). map shape q.rows) back;
-      rw = fits.rw ∙ ap (λ (q : Copied). map fixed q.rw) back;
-      audits = subst (λ (q : Copied). map first_audits (zip q.rows p.rows) ≡ map (λ (o : NodeRow). o.audits) q.rows) back fits.audits;
+      rows = fits.rows ∙ ap (λ (q : PartCopy). map shape q.rows) back;
+      rw = fits.rw ∙ ap (λ (q : PartCopy). map named_thing q.rw) back;
+      audits = subst (λ (q : PartCopy). map first_audits (zip q.rows p.rows) ≡ map (λ (o : NodeRow). o.audits) q.rows) back fits.audits;
     }

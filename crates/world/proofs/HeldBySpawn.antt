@@ -6,19 +6,19 @@ use Rattle.ticket_rows.specs.Place.{Place, place_at, places}
 use Rattle.spawn.proofs.Lawful.{claim_is_held, held_is_claimed, placed}
 use Rattle.spawn.specs.Claim.{is_claimed}
 use Rattle.spawn.specs.Records.{IsGood, is_out}
-use Rattle.spawn.specs.Table.{holder_at, holding, holds}
+use Rattle.spawn.specs.Table.{holder_at, holding_record, holds}
 use Rattle.spawn.specs.declared.records.spawn_rec.SpawnRec.{SpawnRec}
 use Rattle.spawn.specs.declared.tables.holder.Holder.{Holder}
 use Rattle.spawn.specs.declared.tables.holder.Holder.TheVariants.{Master, Spawn}
 use Rattle.master_core.proofs.Recorded.{number_is}
-use Rattle.master_core.specs.Master.{IsKept, Known, holder, is_of, record_of}
-use Rattle.world.proofs.Back.{one_record}
+use Rattle.master_core.specs.Master.{IsConsistent, State, holder, is_of, record_of}
+use Rattle.world.proofs.EndedEntries.{one_record}
 use Rattle.world.proofs.Cases.{same_test}
 use Rattle.world.proofs.PartHolds.{claims}
 use Rattle.world.specs.ShopActs.{is_held_by, is_spawn}
 
 -- a record that is out is good
-pub good_record : (m : Known) (s : ℕ) (r : SpawnRec) → IsKept m → record_of m.records s ≡ Some r → is_out r ≡ true → IsGood m.ticket.rows r
+pub good_record : (m : State) (s : ℕ) (r : SpawnRec) → IsConsistent m → record_of m.records s ≡ Some r → is_out r ≡ true → IsGood m.ticket.rows r
 good_record m s r ok found out =
     let place = placed (is_of s) m.records r found in
     ok.apart.good place.place r place.there out
@@ -29,21 +29,21 @@ spawns_number : (s : ℕ) (o : Option SpawnRec) → is_spawn s (option_map_or (�
 spawns_number s None e = absurd (true≢false (sym e))
 spawns_number s (Some q) e = (q, refl, eqb-true q.id s e)
 
-held_at : (m : Known) (s : ℕ) (r : SpawnRec) (x : List ℕ) (p : Place) → IsKept m → record_of m.records s ≡ Some r → is_out r ≡ true → place_at (places m.ticket.rows) x ≡ Some p → is_spawn s (holder_at m.records p) ≡ is_claimed r.node r.rw p
+held_at : (m : State) (s : ℕ) (r : SpawnRec) (x : List ℕ) (p : Place) → IsConsistent m → record_of m.records s ≡ Some r → is_out r ≡ true → place_at (places m.ticket.rows) x ≡ Some p → is_spawn s (holder_at m.records p) ≡ is_claimed r.node r.rw p
 held_at m s r x p ok found out there =
     let place = placed (is_of s) m.records r found in
     same_test (is_spawn s (holder_at m.records p)) (is_claimed r.node r.rw p)
     (λ held.
-    let by = spawns_number s (holding m.records p) held in
+    let by = spawns_number s (holding_record m.records p) held in
     let q = by.0 in
     let at = placed (holds p) m.records q by.1 in
     let same : q ≡ r = one_record m.records at.place s q r ok.numbered at.there found (by.2 ∙ sym (number_is m.records s r found)) in
     ap (λ (y : SpawnRec). is_claimed y.node y.rw p) (sym same) ∙ (held_is_claimed m.records q p by.1).1)
     (λ claimed.
-    let held : holding m.records p ≡ Some r = claim_is_held m.ticket.rows m.records ok.apart place.place r x p place.there out there claimed in
+    let held : holding_record m.records p ≡ Some r = claim_is_held m.ticket.rows m.records ok.apart place.place r x p place.there out there claimed in
     ap (λ o. is_spawn s (option_map_or (λ (q : SpawnRec). Spawn q.id) o Master)) held ∙ eq-eqb r.id s (number_is m.records s r found))
 
-pub held_claims : (m : Known) (s : ℕ) (r : SpawnRec) (x : List ℕ) → IsKept m → record_of m.records s ≡ Some r → is_out r ≡ true → is_held_by s (holder m) x ≡ claims m.ticket r x
+pub held_claims : (m : State) (s : ℕ) (r : SpawnRec) (x : List ℕ) → IsConsistent m → record_of m.records s ≡ Some r → is_out r ≡ true → is_held_by s (holder m) x ≡ claims m.ticket r x
 held_claims m s r x ok found out = by (place_at (places m.ticket.rows) x) refl
   where
     by : (o : Option Place) → place_at (places m.ticket.rows) x ≡ o → option_map_or (is_spawn s) (option_map (holder_at m.records) o) false ≡ option_map_or (is_claimed r.node r.rw) o false

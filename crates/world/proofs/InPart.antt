@@ -8,7 +8,7 @@ use Rattle.ticket_items.specs.Resource.{resource_ids}
 use Rattle.ticket_items.specs.declared.node_row.NodeRow.{NodeRow}
 use Rattle.ticket_rows.specs.Place.{Place, Thing, below, is_node, place_at, places}
 use Rattle.ticket_rows.specs.Ticket.{IsValid, Job, ids, ids_of}
-use Rattle.ticket_tree.specs.Part.{Copied}
+use Rattle.ticket_tree.specs.Part.{PartCopy}
 use Rattle.spawn.proofs.GoodCopies.{changes_ids, first_of_fixed, good_node, ids_of_resources, in_rw}
 use Rattle.spawn.proofs.Lifting.{ids_lifted}
 use Rattle.spawn.proofs.Outside.{found_kept, kept_found}
@@ -35,7 +35,7 @@ shapes_ids (r ∷ rows) =
     ap (λ is. (r.id ∷ is) ++ flat_map shape_ids (map shape rows)) (first_of_fixed r.resources)
     ∙ ap (λ is. ids_of r ++ is) (shapes_ids rows)
 
-pub fits_has : (t : Job) (r : SpawnRec) (p : Copied) (x : List ℕ) → Fits t r p → has p x ≡ has (part_for t r) x
+pub fits_has : (t : Job) (r : SpawnRec) (p : PartCopy) (x : List ℕ) → Fits t r p → has p x ≡ has (part_for t r) x
 fits_has t r p x fits =
     let q = part_for t r in
     let rows : ids p.rows ≡ ids q.rows = sym (shapes_ids p.rows) ∙ ap (flat_map shape_ids) fits.rows ∙ shapes_ids q.rows in

@@ -3,12 +3,12 @@ pub mod Opening
 pub mod Stored
 pub mod PartsGoOut
 pub mod EditedFits
-pub mod Later
+pub mod StaysLater
 pub mod Sending
 pub mod MasterSteps
 pub mod WorkerSteps
-pub mod Doors
-pub mod Back
+pub mod MessagesTaken
+pub mod EndedEntries
 pub mod Kept
 pub mod AlwaysKept
 pub mod SentTaken
@@ -32,7 +32,7 @@ pub mod MarksShown
 pub mod SameWorkers
 pub mod Receivers
 pub mod Restarts
-pub mod Unmade
+pub mod NeedsNoMemory
 pub mod AnswersCome
 pub mod Cases
 pub mod TakenSpawns
@@ -40,7 +40,7 @@ pub mod PartReads
 pub mod PartHolds
 pub mod EntryStored
 pub mod HeldBySpawn
-pub mod OutThere
+pub mod SpawnsOut
 pub mod WorkerAgrees
 pub mod WorkerEdits
 pub mod WorkerFinishes
@@ -56,7 +56,7 @@ pub mod SpawnsFreed
 pub mod Events
 pub mod Replayed
 pub mod Stopped
-pub mod GoingOn
+pub mod MergeAudits
 pub mod ShopTells
 pub mod OrdersTell
 pub mod MergesTell

@@ -9,12 +9,12 @@ use Rattle.ticket_items.specs.Ids.{mem}
 use Rattle.ticket_items.specs.declared.node_row.NodeRow.{NodeRow}
 use Rattle.ticket_items.specs.declared.resource.Resource.{Resource}
 use Rattle.ticket_items.specs.declared.spawn_status.SpawnStatus.TheVariants.{SpawnedRO, SpawnedRW}
-use Rattle.ticket_rows.specs.Place.{Place, Thing, fixed, fixed_at, nodes_in, places, resources_in}
+use Rattle.ticket_rows.specs.Place.{Place, Thing, named_thing, named_thing_at, nodes_in, places, resources_in}
 use Rattle.spawn.proofs.Tests.{any_mapped}
 use Rattle.spawn.proofs.Chosen.{filter_as, filter_twice}
 use Rattle.spawn.specs.Claim.{ids_of, linked_ro}
 use Rattle.spawn.specs.Laws.{StandApart}
-use Rattle.spawn.specs.Marking.{copies, copies_rw, in_order, mark, out, put_in}
+use Rattle.spawn.specs.Marking.{copies, copies_rw, in_order, mark, put_in, records_out}
 use Rattle.spawn.specs.Records as records
 use Rattle.spawn.specs.Records.{IsGood}
 use Rattle.spawn.specs.declared.records.spawn_rec.SpawnRec.{SpawnRec}
@@ -26,7 +26,7 @@ use Rattle.world.specs.Messages.{entry_for}
 use Rattle.world.specs.Shop.{SpawnState, is_out}
 use Rattle.world.specs.ShopMarks.{shop_mark, spawns_out, takes, takes_rw}
 use Rattle.world.specs.Showing.{phase_shown, shop_shown, spawn_shown}
-use Rattle.world.specs.State.{IsKept, State}
+use Rattle.world.specs.State.{IsConsistent, State}
 
 -- ---- lists that a test looks through
 
@@ -55,13 +55,13 @@ any_alike P f g (x ∷ xs) same all = ap (λ b. b || list_any f xs) (same x (All
 
 -- ---- which spawns are out
 
-shown_out : (c : Controllers) (recs : List SpawnRec) → filter (λ (a : SpawnState). is_out a.phase) (map (spawn_shown c) recs) ≡ map (spawn_shown c) (out recs)
+shown_out : (c : Controllers) (recs : List SpawnRec) → filter (λ (a : SpawnState). is_out a.phase) (map (spawn_shown c) recs) ≡ map (spawn_shown c) (records_out recs)
 shown_out c recs =
     kept_made (λ (a : SpawnState). is_out a.phase) (spawn_shown c) recs
     ∙ ap (map (spawn_shown c)) (filter_as (λ (r : SpawnRec). is_out (phase_shown r.phase (entry_for c r))) records.is_out recs (λ (r : SpawnRec). out_shown r.phase (entry_for c r)))
 
 -- each of them is good
-good_out : (rows : List NodeRow) (recs : List SpawnRec) → StandApart rows recs → All (IsGood rows) (out recs)
+good_out : (rows : List NodeRow) (recs : List SpawnRec) → StandApart rows recs → All (IsGood rows) (records_out recs)
 good_out rows recs apart =
     let good : All (λ (r : SpawnRec). records.is_out r ≡ true → IsGood rows r) recs = λ k d within. apart.good k (get_or recs k d) (slice_get-get_or recs k d within) in
     let kept = All-filter records.is_out (λ (r : SpawnRec). records.is_out r ≡ true → IsGood rows r) recs good in
@@ -74,9 +74,9 @@ reads_linked : (rows : List NodeRow) (r : SpawnRec) (x : List ℕ) → IsGood ro
 reads_linked rows r x good =
     let linked = linked_ro (places rows) r.node r.rw in
     any_mapped (λ y. bytes_eq y x) (λ (p : Place). p.id) linked
-    ∙ sym (any_mapped (λ (f : List ℕ × Thing). bytes_eq f.0 x) fixed_at linked)
+    ∙ sym (any_mapped (λ (f : List ℕ × Thing). bytes_eq f.0 x) named_thing_at linked)
     ∙ sym (ap (list_any (λ (f : List ℕ × Thing). bytes_eq f.0 x)) good.ro)
-    ∙ any_mapped (λ (f : List ℕ × Thing). bytes_eq f.0 x) fixed r.ro
+    ∙ any_mapped (λ (f : List ℕ × Thing). bytes_eq f.0 x) named_thing r.ro
 
 takes_copies : (c : Controllers) (rows : List NodeRow) (x : List ℕ) (r : SpawnRec) → IsGood rows r → takes (places rows) x (spawn_shown c r) ≡ copies x r
 takes_copies c rows x r good = ap (λ b. mem x r.rw || b) (reads_linked rows r x good)
@@ -113,10 +113,10 @@ rising_in_order : (n : ℕ) (ms : List ℕ) → RiseFrom n ms → in_order ms �
 rising_in_order n [] rise = refl
 rising_in_order n (m ∷ ms) rise = ap (put_in m) (rising_in_order m ms rise.1) ∙ put_first m ms rise.1
 
-numbers_in_order : (f : SpawnRec → Bool) (recs : List SpawnRec) → IsNumbered recs → in_order (map (λ (r : SpawnRec). r.id) (filter f (out recs))) ≡ map (λ (r : SpawnRec). r.id) (filter f (out recs))
+numbers_in_order : (f : SpawnRec → Bool) (recs : List SpawnRec) → IsNumbered recs → in_order (map (λ (r : SpawnRec). r.id) (filter f (records_out recs))) ≡ map (λ (r : SpawnRec). r.id) (filter f (records_out recs))
 numbers_in_order f recs numbered =
     let rise = numbers_rise (λ (r : SpawnRec). records.is_out r && f r) 0 recs (λ k r at. omega (arith, numbered k r at)) in
-    rising_in_order 0 (map (λ (r : SpawnRec). r.id) (filter f (out recs))) (subst (λ (rs : List SpawnRec). RiseFrom 0 (map (λ (r : SpawnRec). r.id) rs)) (sym (filter_twice records.is_out f recs)) rise)
+    rising_in_order 0 (map (λ (r : SpawnRec). r.id) (filter f (records_out recs))) (subst (λ (rs : List SpawnRec). RiseFrom 0 (map (λ (r : SpawnRec). r.id) rs)) (sym (filter_twice records.is_out f recs)) rise)
 
 -- ---- the marks
 
@@ -147,16 +147,16 @@ numbers_out c rows recs spawns x good are =
     ∙ numbers_shown c (filter (λ (r : SpawnRec). takes (places rows) x (spawn_shown c r)) recs)
     ∙ ap (map (λ (r : SpawnRec). r.id)) (kept_alike (IsGood rows) (λ (r : SpawnRec). takes (places rows) x (spawn_shown c r)) (copies x) recs (takes_copies c rows x) good)
 
-mark_shown : (w : State) (x : List ℕ) → IsKept w → shop_mark (shop_shown w.controllers) x ≡ mark w.controllers.master.records x
+mark_shown : (w : State) (x : List ℕ) → IsConsistent w → shop_mark (shop_shown w.controllers) x ≡ mark w.controllers.master.records x
 mark_shown w x ok =
     let c = w.controllers in
     let rows = c.master.ticket.rows in
     let recs = c.master.records in
     let spawns = spawns_out (shop_shown c) in
-    let are : AreShown c (out recs) spawns = shown_out c recs in
-    let changed : list_any (takes_rw x) spawns ≡ list_any (copies_rw x) (out recs) = changed_out c (out recs) spawns x are in
-    let numbers : map (λ (a : SpawnState). a.number) (filter (takes (places rows) x) spawns) ≡ in_order (map (λ (r : SpawnRec). r.id) (filter (copies x) (out recs))) =
-    numbers_out c rows (out recs) spawns x (good_out rows recs ok.master.apart) are ∙ sym (numbers_in_order (copies x) recs ok.master.numbered) in
+    let are : AreShown c (records_out recs) spawns = shown_out c recs in
+    let changed : list_any (takes_rw x) spawns ≡ list_any (copies_rw x) (records_out recs) = changed_out c (records_out recs) spawns x are in
+    let numbers : map (λ (a : SpawnState). a.number) (filter (takes (places rows) x) spawns) ≡ in_order (map (λ (r : SpawnRec). r.id) (filter (copies x) (records_out recs))) =
+    numbers_out c rows (records_out recs) spawns x (good_out rows recs ok.master.apart) are ∙ sym (numbers_in_order (copies x) recs ok.master.numbered) in
     λ i. record { id = x; status = cond (changed i) SpawnedRW SpawnedRO; spawn_ids = numbers i }
 
 pub marks_are_shown : MarksAreShown
@@ -165,10 +165,10 @@ marks_are_shown w ok =
     let rows = c.master.ticket.rows in
     let recs = c.master.records in
     let spawns = spawns_out (shop_shown c) in
-    let are : AreShown c (out recs) spawns = shown_out c recs in
+    let are : AreShown c (records_out recs) spawns = shown_out c recs in
     let good = good_out rows recs ok.master.apart in
     λ i.
     record {
-      nodes = filter (λ n. node_out c (out recs) spawns n are i) (ids_of (nodes_in (places rows)));
-      resources = map (λ x. mark_shown w x ok i) (filter (λ x. any_out c rows (out recs) spawns x good are i) (ids_of (resources_in (places rows))));
+      nodes = filter (λ n. node_out c (records_out recs) spawns n are i) (ids_of (nodes_in (places rows)));
+      resources = map (λ x. mark_shown w x ok i) (filter (λ x. any_out c rows (records_out recs) spawns x good are i) (ids_of (resources_in (places rows))));
     }

@@ -20,7 +20,7 @@ use Rattle.ticket_tree.proofs.OnPlaces.{stands_somewhere}
 use Rattle.ticket_tree.proofs.PlainEdits.{edit_of_places}
 use Rattle.ticket_tree.proofs.PlainRefusal.{lookups_alike}
 use Rattle.ticket_tree.proofs.PlainRows.{edit_of_rows}
-use Rattle.ticket_tree.specs.PlainEdit.{plain_changed, plain_lookups, plain_rows, touch, with_line}
+use Rattle.ticket_tree.specs.PlainEdit.{plain_changed, plain_lookups, plain_rows, with_line, with_row_changed}
 use Rattle.controller.specs.declared.message.Message.{Message}
 use Rattle.spawn.proofs.EditKeeps.{edit_keeps_claims}
 use Rattle.spawn.proofs.HoldingsEdited.{IsOld, holder_stays, new_nowhere}
@@ -28,13 +28,13 @@ use Rattle.spawn.proofs.Lawful.{held_is_claimed, placed}
 use Rattle.spawn.proofs.Outside.{some_of}
 use Rattle.spawn.specs.Claim.{is_claimed}
 use Rattle.spawn.specs.Laws.{StandApart}
-use Rattle.spawn.specs.Table.{holder_at, holder_of, holding, holds}
+use Rattle.spawn.specs.Table.{holder_at, holder_of, holding_record, holds}
 use Rattle.spawn.specs.declared.records.spawn_rec.SpawnRec.{SpawnRec}
 use Rattle.spawn.specs.declared.tables.holder.Holder.{Holder}
 use Rattle.spawn.specs.declared.tables.holder.Holder.TheVariants.{Master, Spawn}
 use Rattle.spawn.proofs.SoundPart.{false_by}
 use Rattle.master_core.proofs.Refusals.{IsFree, edit_free}
-use Rattle.master_core.specs.Master.{Known, holder}
+use Rattle.master_core.specs.Master.{State as MasterState, holder}
 use Rattle.master_core.specs.Orders as orders
 use Rattle.master_core.specs.declared.order.Order.TheVariants as order
 use Rattle.ticket_tree.specs.PartView.{part_row}
@@ -42,11 +42,11 @@ use Rattle.world.proofs.Agreeing.{Agrees}
 use Rattle.world.proofs.MasterSteps.{with_master}
 use Rattle.world.proofs.ShopPaths.{same_shop}
 use Rattle.world.specs.Controllers.{Controllers}
-use Rattle.world.specs.Shop.{Rows, Shop}
-use Rattle.world.specs.ShopActs.{edited, with_new}
+use Rattle.world.specs.Shop.{PlainState, Rows}
+use Rattle.world.specs.ShopActs.{after_edit, with_new}
 use Rattle.world.specs.ShopSteps.{Tag, edit_refusal, master_does}
 use Rattle.world.specs.Showing.{now_shown, part_of_spawn, row_at, shop_shown}
-use Rattle.world.specs.State.{IsKept, State}
+use Rattle.world.specs.State.{IsConsistent, State}
 use Rattle.controller.specs.Step.{Step, unless_refused}
 use Rattle.master_core.specs.Orders.{order_step as ordered_master}
 use Rattle.world.specs.Stepping.{master_moved}
@@ -54,7 +54,7 @@ use Rattle.world.specs.Stepping.{master_moved}
 -- ---- refusals
 
 -- an order that is refused alike, and done alike where it isn't
-pub order_agrees : (c : Controllers) (done : Step Known Message) (plain : Step Shop Tag) (mine its : Option Refusal) → mine ≡ its → (mine ≡ None → Agrees (master_moved c done) plain)
+pub order_agrees : (c : Controllers) (done : Step MasterState Message) (plain : Step PlainState Tag) (mine its : Option Refusal) → mine ≡ its → (mine ≡ None → Agrees (master_moved c done) plain)
     → Agrees (master_moved c (unless_refused mine c.master done)) (unless_refused its (shop_shown c) plain)
 order_agrees c done plain None None same go = go refl
 order_agrees c done plain None (Some e) same go = cc
@@ -73,10 +73,10 @@ edit_refused e c valid =
 
 -- ---- rows, point by point
 
-pub touch_as : (y : List ℕ) (f : Row → Row) (rows others : Rows) (x : List ℕ) → rows x ≡ others x → touch y f rows x ≡ touch y f others x
+pub touch_as : (y : List ℕ) (f : Row → Row) (rows others : Rows) (x : List ℕ) → rows x ≡ others x → with_row_changed y f rows x ≡ with_row_changed y f others x
 touch_as y f rows others x same = ap (λ o. cond (bytes_eq y x) (option_map f o) o) same
 
-pub untouched : (y : List ℕ) (f : Row → Row) (rows : Rows) (x : List ℕ) → bytes_eq y x ≡ false → touch y f rows x ≡ rows x
+pub untouched : (y : List ℕ) (f : Row → Row) (rows : Rows) (x : List ℕ) → bytes_eq y x ≡ false → with_row_changed y f rows x ≡ rows x
 untouched y f rows x other = ap (λ b. cond b (option_map f (rows x)) (rows x)) other
 
 line_as : (y : List ℕ) (row : Row) (rows others : Rows) (x : List ℕ) → rows x ≡ others x → with_line y row rows x ≡ with_line y row others x
@@ -130,8 +130,8 @@ some_same : (i j : List ℕ) → Some i ≡ Some j → i ≡ j
 some_same i j e = ap (λ o. option_map_or (λ x. x) o i) e
 
 -- no spawn claims what stood nowhere
-new_unheld : (e : Edit) (at : ℕ) (m : Known) (x : List ℕ) (p : Place) (o : Option SpawnRec) → IsValid m.ticket.rows → StandApart m.ticket.rows m.records → IsFree m e → mem x (ids m.ticket.rows) ≡ false
-    → place_at (places (edited_rows e at m.ticket.rows)) x ≡ Some p → holding m.records p ≡ o → o ≡ None
+new_unheld : (e : Edit) (at : ℕ) (m : MasterState) (x : List ℕ) (p : Place) (o : Option SpawnRec) → IsValid m.ticket.rows → StandApart m.ticket.rows m.records → IsFree m e → mem x (ids m.ticket.rows) ≡ false
+    → place_at (places (edited_rows e at m.ticket.rows)) x ≡ Some p → holding_record m.records p ≡ o → o ≡ None
 new_unheld e at m x p None valid apart free nowhere there held = refl
 new_unheld e at m x p (Some r) valid apart free nowhere there held =
     let rows = m.ticket.rows in
@@ -143,7 +143,7 @@ new_unheld e at m x p (Some r) valid apart free nowhere there held =
     absurd (true≢false (sym (ap is_some before) ∙ stands_somewhere rows x ∙ nowhere))
 
 -- and the master holds it
-new_is_masters : (e : Edit) (at : ℕ) (m : Known) (i x : List ℕ) → IsValid m.ticket.rows → StandApart m.ticket.rows m.records → IsFree m e → added_id e ≡ Some i → bytes_eq i x ≡ true → holder_of (edited_rows e at m.ticket.rows) m.records x ≡ Some Master
+new_is_masters : (e : Edit) (at : ℕ) (m : MasterState) (i x : List ℕ) → IsValid m.ticket.rows → StandApart m.ticket.rows m.records → IsFree m e → added_id e ≡ Some i → bytes_eq i x ≡ true → holder_of (edited_rows e at m.ticket.rows) m.records x ≡ Some Master
 new_is_masters e at m i x valid apart free added own =
     let rows = m.ticket.rows in
     let later = edited_rows e at rows in
@@ -151,16 +151,16 @@ new_is_masters e at m i x valid apart free added own =
     let place = some_of (place_at (places later) x) (stands_with_row later x ∙ ap is_some (edit_of_rows e at rows valid free.rows x ∙ row.1 (row_in rows))) in
     let nowhere : mem x (ids rows) ≡ false = ap (λ y. mem y (ids rows)) (sym ((bytes_eq-Decides i x).0 own)) ∙ new_nowhere e rows i free.rows added in
     ap (option_map (holder_at m.records)) place.1
-    ∙ ap (λ o. Some (option_map_or (λ (r : SpawnRec). Spawn r.id) o Master)) (new_unheld e at m x place.0 (holding m.records place.0) valid apart free nowhere place.1 refl)
+    ∙ ap (λ o. Some (option_map_or (λ (r : SpawnRec). Spawn r.id) o Master)) (new_unheld e at m x place.0 (holding_record m.records place.0) valid apart free nowhere place.1 refl)
 
 -- ---- what is now
 
 -- the controllers after the edit
 abbrev later : Edit → ℕ → Controllers → Controllers
-later e at c = with_master c (orders.ordered (order.Edit e) at c.master).next
+later e at c = with_master c (orders.allowed_step (order.Edit e) at c.master).next
 
 -- what the master holds isn't what a spawn holds
-pub not_masters : (m : Known) (y x : List ℕ) (s : ℕ) → holder m y ≡ Some Master → holder m x ≡ Some (Spawn s) → bytes_eq y x ≡ false
+pub not_masters : (m : MasterState) (y x : List ℕ) (s : ℕ) → holder m y ≡ Some Master → holder m x ≡ Some (Spawn s) → bytes_eq y x ≡ false
 not_masters m y x s mine its =
     false_by (bytes_eq y x) (λ same.
     let one : holder m y ≡ holder m x = ap (holder m) ((bytes_eq-Decides y x).0 same) in
@@ -217,10 +217,10 @@ same_at e at c x (Some i) valid apart free added = same_by e at c i x (bytes_eq 
 
 -- ---- the whole
 
-edit_is_shown : (e : Edit) (at : ℕ) (c : Controllers) → IsValid c.master.ticket.rows → StandApart c.master.ticket.rows c.master.records → IsFree c.master e → shop_shown (later e at c) ≡ edited e at (shop_shown c)
+edit_is_shown : (e : Edit) (at : ℕ) (c : Controllers) → IsValid c.master.ticket.rows → StandApart c.master.ticket.rows c.master.records → IsFree c.master e → shop_shown (later e at c) ≡ after_edit e at (shop_shown c)
 edit_is_shown e at c valid apart free =
     let same : (x : List ℕ) → IsSame e at c x = λ x. same_at e at c x (added_id e) valid apart free refl in
-    same_shop (shop_shown (later e at c)) (edited e at (shop_shown c))
+    same_shop (shop_shown (later e at c)) (after_edit e at (shop_shown c))
     (record {
       master = refl;
       workers = refl;
@@ -232,7 +232,7 @@ edit_is_shown e at c valid apart free =
       spawns = refl;
     })
 
-pub master_edits : (w : State) (e : Edit) (at : ℕ) → IsKept w
+pub master_edits : (w : State) (e : Edit) (at : ℕ) → IsConsistent w
     → Agrees (master_moved w.controllers (ordered_master (order.Edit e) at w.controllers.master)) (master_does (order.Edit e) at (shop_shown w.controllers))
 master_edits w e at kept =
     let c = w.controllers in

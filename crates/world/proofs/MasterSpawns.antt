@@ -23,7 +23,7 @@ use Rattle.ticket_tree.proofs.LookUps.{node_is_at_place}
 use Rattle.ticket_tree.proofs.OnPlaces.{stands_node, stands_resource}
 use Rattle.ticket_tree.proofs.PlainOneRow.{append_of_places, append_of_rows}
 use Rattle.ticket_tree.specs.PartView.{part_row}
-use Rattle.ticket_tree.specs.PlainEdit.{stands, touch}
+use Rattle.ticket_tree.specs.PlainEdit.{stands, with_row_changed}
 use Rattle.spawn.proofs.Among.{distinct_kept}
 use Rattle.spawn.proofs.Tests.{all_as}
 use Rattle.spawn.proofs.Chosen.{AllOwn, all_own}
@@ -38,7 +38,7 @@ use Rattle.spawn.specs.Claim.{claim, ids_of, is_claimed, linked_outside, linked_
 use Rattle.spawn.specs.Records.{is_out}
 use Rattle.spawn.specs.Spawning as spawning
 use Rattle.spawn.specs.Spawning.{parent_of}
-use Rattle.spawn.specs.Table.{holder_at, holding, holds}
+use Rattle.spawn.specs.Table.{holder_at, holding_record, holds}
 use Rattle.spawn.specs.declared.records.phase.Phase.TheVariants as recorded
 use Rattle.spawn.specs.declared.records.spawn_rec.SpawnRec.{SpawnRec}
 use Rattle.spawn.specs.declared.tables.holder.Holder.{Holder}
@@ -54,7 +54,7 @@ use Rattle.master_core.specs.declared.order.Order.TheVariants as order
 use Rattle.controller.specs.declared.reply.Reply.TheVariants as reply
 use Rattle.worker_core.specs.declared.entry.Entry.{Entry}
 use Rattle.world.proofs.Agreeing.{Agrees}
-use Rattle.world.proofs.Doors.{entry_recorded}
+use Rattle.world.proofs.MessagesTaken.{entry_recorded}
 use Rattle.world.proofs.MasterEdits.{not_masters, order_agrees, touch_as, untouched}
 use Rattle.world.proofs.MasterSteps.{with_master}
 use Rattle.world.proofs.ShopPaths.{same_shop}
@@ -63,10 +63,10 @@ use Rattle.world.specs.Controllers.{Controllers, entry_at}
 use Rattle.world.specs.Messages.{AreRecorded, entry_for}
 use Rattle.world.specs.Shop as shop
 use Rattle.world.specs.Shop.{Away, Rows, SpawnState}
-use Rattle.world.specs.ShopActs.{next_spawn, spawned, spawned_audit, told_above, with_claim}
+use Rattle.world.specs.ShopActs.{after_spawn, next_spawn, spawned_audit, with_claim, with_parent_audit}
 use Rattle.world.specs.ShopSteps.{Submit, master_does, spawn_refusal}
 use Rattle.world.specs.Showing.{entry_of_spawn, now_shown, part_of_spawn, phase_shown, row_at, seen_shown, shop_shown, spawn_shown}
-use Rattle.world.specs.State.{IsKept, State}
+use Rattle.world.specs.State.{IsConsistent, State}
 use Rattle.master_core.specs.Orders.{order_step as ordered_master}
 use Rattle.world.specs.Stepping.{master_moved}
 
@@ -93,10 +93,10 @@ held_one : (o : Option SpawnRec) (later : List SpawnRec) (rest : List (Option Re
 held_one None later rest go = go
 held_one (Some r) later rest go = refl
 
-held_first : (all : List Place) (recs : List SpawnRec) (some : List Place) → AllOwn all some → option_map (λ (r : SpawnRec). NotHeld r.id) (slice_get (filter_map (holding recs) some) 0) ≡ first_of (map (asked all recs) (ids_of some))
+held_first : (all : List Place) (recs : List SpawnRec) (some : List Place) → AllOwn all some → option_map (λ (r : SpawnRec). NotHeld r.id) (slice_get (filter_map (holding_record recs) some) 0) ≡ first_of (map (asked all recs) (ids_of some))
 held_first all recs [] own = refl
 held_first all recs (p ∷ some) own =
-    held_one (holding recs p) (filter_map (holding recs) some) (map (asked all recs) (ids_of some)) (held_first all recs some own.1)
+    held_one (holding_record recs p) (filter_map (holding_record recs) some) (map (asked all recs) (ids_of some)) (held_first all recs some own.1)
     ∙ ap (λ o. first_of (option_map_or held_refusal (option_map (holder_at recs) o) None ∷ map (asked all recs) (ids_of some))) (sym own.0)
 
 held_alike : (rows : List NodeRow) (recs : List SpawnRec) (n : List ℕ) (rw : List (List ℕ)) → IsValid rows → spawning.not_held (places rows) recs n rw ≡ first_of (map (asked (places rows) recs) (ids_of (claim (places rows) n rw)))
@@ -134,7 +134,7 @@ spawn_refused n worker copies c valid =
 record IsSent (c : Controllers) (n worker : List ℕ) (rw : List (List ℕ)) (at : ℕ) : Type 0 where
   valid : IsValid c.master.ticket.rows
   numbered : IsNumbered c.master.records
-  next : master.IsKept (orders.ordered (order.Spawn n worker rw) at c.master).next
+  next : master.IsConsistent (orders.allowed_step (order.Spawn n worker rw) at c.master).next
   known : has_node c.master.ticket.rows n ≡ true
   above : List ℕ
   is_above : up (node_places c.master.ticket.rows) n ≡ Some above
@@ -161,7 +161,7 @@ no_entry c name (Some e) numbered all found =
     let within : place.place < length records = slice_get_within records place.place known.0 place.there in
     absurd (omega (arith, numbered place.place known.0 place.there, number_is records e.spawn_id known.0 known.1, own.1, within))
 
-sent_of : (c : Controllers) (n worker : List ℕ) (rw : List (List ℕ)) (at : ℕ) → master.IsKept c.master → All (AreRecorded c) c.workers → orders.order_refusal (order.Spawn n worker rw) c.master ≡ None → IsSent c n worker rw at
+sent_of : (c : Controllers) (n worker : List ℕ) (rw : List (List ℕ)) (at : ℕ) → master.IsConsistent c.master → All (AreRecorded c) c.workers → orders.order_refusal (order.Spawn n worker rw) c.master ≡ None → IsSent c n worker rw at
 sent_of c n worker copies at kept all none =
     let m = c.master in
     let rows = m.ticket.rows in
@@ -186,7 +186,7 @@ new c n worker rw at = next_record c.master n worker rw at
 
 -- the controllers after it
 abbrev later : Controllers → List ℕ → List ℕ → List (List ℕ) → ℕ → Controllers
-later c n worker rw at = with_master c (orders.ordered (order.Spawn n worker rw) at c.master).next
+later c n worker rw at = with_master c (orders.allowed_step (order.Spawn n worker rw) at c.master).next
 
 -- the spawn as the shop has it
 abbrev next : Controllers → List ℕ → List ℕ → List (List ℕ) → SpawnState
@@ -221,25 +221,25 @@ audit_shown c n worker copies at s =
 -- ---- rows, point by point
 
 -- it is told at the parent
-pub told_there : (tree : List Place) (n u : List ℕ) (a : Audit) (rows : Rows) (x : List ℕ) → up (nodes_in tree) n ≡ Some u → told_above tree n a rows x ≡ touch u (with_told a) rows x
-told_there tree n u a rows x above = ap (λ o. option_map_or (λ v. touch v (with_told a) rows) o rows x) above
+pub told_there : (tree : List Place) (n u : List ℕ) (a : Audit) (rows : Rows) (x : List ℕ) → up (nodes_in tree) n ≡ Some u → with_parent_audit tree n a rows x ≡ with_row_changed u (with_told a) rows x
+told_there tree n u a rows x above = ap (λ o. option_map_or (λ v. with_row_changed v (with_told a) rows) o rows x) above
 
 -- what is told of the same rows is the same, and what isn't the parent's stays
-pub told_as : (tree : List Place) (n u : List ℕ) (a : Audit) (rows others : Rows) (x : List ℕ) → up (nodes_in tree) n ≡ Some u → rows x ≡ others x → told_above tree n a rows x ≡ told_above tree n a others x
+pub told_as : (tree : List Place) (n u : List ℕ) (a : Audit) (rows others : Rows) (x : List ℕ) → up (nodes_in tree) n ≡ Some u → rows x ≡ others x → with_parent_audit tree n a rows x ≡ with_parent_audit tree n a others x
 told_as tree n u a rows others x above same = told_there tree n u a rows x above ∙ touch_as u (with_told a) rows others x same ∙ sym (told_there tree n u a others x above)
 
-pub told_stays : (tree : List Place) (n u : List ℕ) (a : Audit) (rows : Rows) (x : List ℕ) → up (nodes_in tree) n ≡ Some u → bytes_eq u x ≡ false → told_above tree n a rows x ≡ rows x
+pub told_stays : (tree : List Place) (n u : List ℕ) (a : Audit) (rows : Rows) (x : List ℕ) → up (nodes_in tree) n ≡ Some u → bytes_eq u x ≡ false → with_parent_audit tree n a rows x ≡ rows x
 told_stays tree n u a rows x above other = told_there tree n u a rows x above ∙ untouched u (with_told a) rows x other
 
 seen_after : (c : Controllers) (n worker : List ℕ) (rw : List (List ℕ)) (at : ℕ) (x : List ℕ) → IsSent c n worker rw at
-    → seen_shown (later c n worker rw at) x ≡ told_above (places c.master.ticket.rows) n (told_of c n worker rw at) (seen_shown c) x
+    → seen_shown (later c n worker rw at) x ≡ with_parent_audit (places c.master.ticket.rows) n (told_of c n worker rw at) (seen_shown c) x
 seen_after c n worker copies at x s =
     let rows = c.master.ticket.rows in
     let made = spawning.spawned_audit rows (new c n worker copies at) in
     let above : parent_of rows n ≡ s.above = ap (λ o. option_map_or (λ v. v) o []) s.is_above in
     append_of_rows (parent_of rows n) made rows s.valid (ap (has_node rows) above ∙ s.above_known) x
-    ∙ ap (λ u. touch u (with_told made) (row_in rows) x) above
-    ∙ ap (λ a. touch s.above (with_told a) (row_in rows) x) (audit_shown c n worker copies at s)
+    ∙ ap (λ u. with_row_changed u (with_told made) (row_in rows) x) above
+    ∙ ap (λ a. with_row_changed s.above (with_told a) (row_in rows) x) (audit_shown c n worker copies at s)
     ∙ sym (told_there (places rows) n s.above (told_of c n worker copies at) (row_in rows) x s.is_above)
 
 -- ---- holders
@@ -259,7 +259,7 @@ new_holds c n worker copies at x p s there claims =
 
 -- and none held it before
 free_before : (c : Controllers) (n worker : List ℕ) (rw : List (List ℕ)) (at : ℕ) (x : List ℕ) (p : Place) (o : Option SpawnRec) → IsSent c n worker rw at → place_at (places c.master.ticket.rows) x ≡ Some p → is_claimed n (new c n worker rw at).rw p ≡ true
-    → holding c.master.records p ≡ o → o ≡ None
+    → holding_record c.master.records p ≡ o → o ≡ None
 free_before c n worker copies at x p None s there claims held = refl
 free_before c n worker copies at x p (Some q) s there claims held =
     let d = later c n worker copies at in
@@ -275,7 +275,7 @@ free_before c n worker copies at x p (Some q) s there claims held =
 masters_before : (c : Controllers) (n worker : List ℕ) (rw : List (List ℕ)) (at : ℕ) (x : List ℕ) (p : Place) → IsSent c n worker rw at → place_at (places c.master.ticket.rows) x ≡ Some p → is_claimed n (new c n worker rw at).rw p ≡ true → holder c.master x ≡ Some Master
 masters_before c n worker copies at x p s there claims =
     ap (option_map (holder_at c.master.records)) there
-    ∙ ap (λ o. Some (option_map_or (λ (q : SpawnRec). Spawn q.id) o Master)) (free_before c n worker copies at x p (holding c.master.records p) s there claims refl)
+    ∙ ap (λ o. Some (option_map_or (λ (q : SpawnRec). Spawn q.id) o Master)) (free_before c n worker copies at x p (holding_record c.master.records p) s there claims refl)
 
 -- what it doesn't claim is held as it was
 or_else : (o : Option SpawnRec) (r : SpawnRec) (b : Bool) → b ≡ false → option_or o (cond b (Some r) None) ≡ o
@@ -287,7 +287,7 @@ held_before : (recs : List SpawnRec) (r : SpawnRec) (o : Option Place) → is_ou
 held_before recs r None out off = refl
 held_before recs r (Some p) out off =
     ap (λ o. Some (option_map_or (λ (q : SpawnRec). Spawn q.id) o Master))
-    (find-append (holds p) recs (r ∷ []) ∙ or_else (holding recs p) r (holds p r) (ap (λ b. b && is_claimed r.node r.rw p) out ∙ off))
+    (find-append (holds p) recs (r ∷ []) ∙ or_else (holding_record recs p) r (holds p r) (ap (λ b. b && is_claimed r.node r.rw p) out ∙ off))
 
 holder_before : (c : Controllers) (n worker : List ℕ) (rw : List (List ℕ)) (at : ℕ) (x : List ℕ) → option_map_or (is_claimed n (new c n worker rw at).rw) (place_at (places c.master.ticket.rows) x) false ≡ false → holder (later c n worker rw at).master x ≡ holder c.master x
 holder_before c n worker copies at x off =
@@ -326,7 +326,7 @@ entry_new c n worker copies at s =
 
 -- the row of what isn't claimed, by its holder
 row_before : (c : Controllers) (n worker : List ℕ) (rw : List (List ℕ)) (at : ℕ) (x : List ℕ) (h : Option Holder) → IsSent c n worker rw at → holder (later c n worker rw at).master x ≡ h → holder c.master x ≡ h
-    → row_at (later c n worker rw at) x h ≡ told_above (places c.master.ticket.rows) n (told_of c n worker rw at) (now_shown c) x
+    → row_at (later c n worker rw at) x h ≡ with_parent_audit (places c.master.ticket.rows) n (told_of c n worker rw at) (now_shown c) x
 row_before c n worker copies at x None s held before =
     seen_after c n worker copies at x s ∙ told_as (places c.master.ticket.rows) n s.above (told_of c n worker copies at) (seen_shown c) (now_shown c) x s.is_above (sym (ap (row_at c x) before))
 row_before c n worker copies at x (Some Master) s held before =
@@ -344,7 +344,7 @@ row_before c n worker copies at x (Some (Spawn k)) s held before =
 
 record IsSame (c : Controllers) (n worker : List ℕ) (rw : List (List ℕ)) (at : ℕ) (x : List ℕ) : Type 0 where
   holds_it : holder (later c n worker rw at).master x ≡ with_claim (next c n worker rw) (places c.master.ticket.rows) (holder c.master) x
-  shows_it : now_shown (later c n worker rw at) x ≡ told_above (places c.master.ticket.rows) n (told_of c n worker rw at) (now_shown c) x
+  shows_it : now_shown (later c n worker rw at) x ≡ with_parent_audit (places c.master.ticket.rows) n (told_of c n worker rw at) (now_shown c) x
 
 some_passes : (f : Place → Bool) (o : Option Place) → option_map_or f o false ≡ true → (p : Place) × (o ≡ Some p) × (f p ≡ true)
 some_passes f None e = absurd (true≢false (sym e))
@@ -382,10 +382,10 @@ spawns_after c n worker copies at s =
     ∙ ap (λ (o : Option Entry). spawns ++ record { number = r.id; node = n; worker = worker; rw = r.rw; phase = phase_shown recorded.Out o } ∷ []) s.no_entry
     ∙ ap (λ k. spawns ++ record { number = k; node = n; worker = worker; rw = r.rw; phase = Away } ∷ []) (sym (number_shown c))
 
-spawn_is_shown : (c : Controllers) (n worker : List ℕ) (rw : List (List ℕ)) (at : ℕ) → IsSent c n worker rw at → shop_shown (later c n worker rw at) ≡ spawned n worker rw at (shop_shown c)
+spawn_is_shown : (c : Controllers) (n worker : List ℕ) (rw : List (List ℕ)) (at : ℕ) → IsSent c n worker rw at → shop_shown (later c n worker rw at) ≡ after_spawn n worker rw at (shop_shown c)
 spawn_is_shown c n worker copies at s =
     let same : (x : List ℕ) → IsSame c n worker copies at x = λ x. same_by c n worker copies at x _ s refl in
-    same_shop (shop_shown (later c n worker copies at)) (spawned n worker copies at (shop_shown c))
+    same_shop (shop_shown (later c n worker copies at)) (after_spawn n worker copies at (shop_shown c))
     (record {
       master = refl;
       workers = refl;
@@ -397,7 +397,7 @@ spawn_is_shown c n worker copies at s =
       spawns = spawns_after c n worker copies at s;
     })
 
-pub master_spawns : (w : State) (n worker : List ℕ) (rw : List (List ℕ)) (at : ℕ) → IsKept w
+pub master_spawns : (w : State) (n worker : List ℕ) (rw : List (List ℕ)) (at : ℕ) → IsConsistent w
     → Agrees (master_moved w.controllers (ordered_master (order.Spawn n worker rw) at w.controllers.master)) (master_does (order.Spawn n worker rw) at (shop_shown w.controllers))
 master_spawns w n worker copies at kept =
     let c = w.controllers in

@@ -13,12 +13,12 @@ use Rattle.master_core.proofs.OrderLaws.{asks, submits}
 use Rattle.master_core.proofs.PartsKept.{message_keeps_spawns, order_keeps_spawns}
 use Rattle.master_core.proofs.Recorded.{number_is}
 use Rattle.master_core.proofs.Refusals.{done_order}
-use Rattle.master_core.specs.Master.{IsKept, Known, is_of, merged_record, next_number, record_of, withdrawn_record}
+use Rattle.master_core.specs.Master.{IsConsistent, State, is_of, merged_record, next_number, record_of, withdrawn_record}
 use Rattle.master_core.specs.Messages.{IsValidBody, take_step}
-use Rattle.master_core.specs.Orders.{abort_of, order_refusal, ordered, spawn_sent, submit_of}
+use Rattle.master_core.specs.Orders.{abort_of, allowed_step, order_refusal, spawn_sent, submit_of}
 use Rattle.master_core.specs.declared.order.Order.{Order}
 use Rattle.master_core.specs.declared.order.Order.TheVariants as order
-use Rattle.world.proofs.Later.{AreLater}
+use Rattle.world.proofs.StaysLater.{AreLater}
 use Rattle.stored_state.specs.Names.{ordered_names, taken_by_master_names}
 use Rattle.world.proofs.PartsGoOut.{part_is_valid}
 use Rattle.world.proofs.Sending.{IsNew, new_message}
@@ -26,12 +26,12 @@ use Rattle.world.specs.Controllers.{Controllers}
 use Rattle.world.specs.Messages.{IsInOrder}
 
 -- the controllers with the master as it is next
-abbrev pub with_master : Controllers → Known → Controllers
+abbrev pub with_master : Controllers → State → Controllers
 with_master c next = record c { master = next }
 
 -- ---- orders
 
-pub ordered_later : (o : Order) (at : ℕ) (c : Controllers) → IsKept c.master → order_refusal o c.master ≡ None → AreLater c (with_master c (ordered o at c.master).next)
+pub ordered_later : (o : Order) (at : ℕ) (c : Controllers) → IsConsistent c.master → order_refusal o c.master ≡ None → AreLater c (with_master c (allowed_step o at c.master).next)
 ordered_later o at c kept none =
     let done = sym (done_order o at c.master none) in
     record {
@@ -40,17 +40,17 @@ ordered_later o at c kept none =
           let stays = order_keeps_spawns o at c.master s r kept found in
           record {
             next = r;
-            found = ap (λ (step : Step Known Message). record_of step.next.records s) done ∙ stays.0;
+            found = ap (λ (step : Step State Message). record_of step.next.records s) done ∙ stays.0;
             worker = refl;
             since = refl;
             same = λ out. refl;
-            part = λ out. ap (λ (step : Step Known Message). part_for step.next.ticket r) done ∙ stays.1 out;
+            part = λ out. ap (λ (step : Step State Message). part_for step.next.ticket r) done ∙ stays.1 out;
           };
       ended = λ n s e there ended. (e, there, inl refl);
     }
 
 -- the part of a record that is out may be sent
-submit_is_new : (c : Controllers) (messages : List Message) (s : ℕ) (r : SpawnRec) → IsKept c.master → All (IsInOrder c) messages → record_of c.master.records s ≡ Some r → is_out r ≡ true → IsNew c messages (submit_of c.master.name c.master.ticket r)
+submit_is_new : (c : Controllers) (messages : List Message) (s : ℕ) (r : SpawnRec) → IsConsistent c.master → All (IsInOrder c) messages → record_of c.master.records s ≡ Some r → is_out r ≡ true → IsNew c messages (submit_of c.master.name c.master.ticket r)
 submit_is_new c messages s r kept all found out =
     let place = placed (is_of s) c.master.records r found in
     let good = kept.apart.good place.place r place.there out in
@@ -67,10 +67,10 @@ submit_is_new c messages s r kept all found out =
     })
     out
 
-part_is_sent : (o : Order) (at : ℕ) (c : Controllers) (messages : List Message) (s : ℕ) → IsKept c.master → order_refusal o c.master ≡ None → IsKept (ordered o at c.master).next → All (IsInOrder (with_master c (ordered o at c.master).next)) messages → spawn_sent o c.master ≡ Some s
-    → IfSome (ordered o at c.master).sent (IsNew (with_master c (ordered o at c.master).next) messages)
+part_is_sent : (o : Order) (at : ℕ) (c : Controllers) (messages : List Message) (s : ℕ) → IsConsistent c.master → order_refusal o c.master ≡ None → IsConsistent (allowed_step o at c.master).next → All (IsInOrder (with_master c (allowed_step o at c.master).next)) messages → spawn_sent o c.master ≡ Some s
+    → IfSome (allowed_step o at c.master).sent (IsNew (with_master c (allowed_step o at c.master).next) messages)
 part_is_sent o at c messages s kept none next all is =
-    let d = with_master c (ordered o at c.master).next in
+    let d = with_master c (allowed_step o at c.master).next in
     let sends = submits o at c.master s kept none is in
     subst (λ m. IfSome m (IsNew d messages)) (sym sends.3)
     (subst (λ n. IsNew d messages (submit_of n d.master.ticket sends.0)) (ordered_names o at c.master).own (submit_is_new d messages s sends.0 next all sends.1 sends.2))
@@ -91,8 +91,8 @@ abort_is_new c messages s r all found =
     })
     tt
 
-pub ordered_sends : (o : Order) (at : ℕ) (c : Controllers) (messages : List Message) → IsKept c.master → order_refusal o c.master ≡ None → IsKept (ordered o at c.master).next → All (IsInOrder (with_master c (ordered o at c.master).next)) messages
-    → IfSome (ordered o at c.master).sent (IsNew (with_master c (ordered o at c.master).next) messages)
+pub ordered_sends : (o : Order) (at : ℕ) (c : Controllers) (messages : List Message) → IsConsistent c.master → order_refusal o c.master ≡ None → IsConsistent (allowed_step o at c.master).next → All (IsInOrder (with_master c (allowed_step o at c.master).next)) messages
+    → IfSome (allowed_step o at c.master).sent (IsNew (with_master c (allowed_step o at c.master).next) messages)
 ordered_sends (order.Edit e) at c messages kept none next all = tt
 ordered_sends (order.Spawn node worker copies) at c messages kept none next all = part_is_sent (order.Spawn node worker copies) at c messages (next_number c.master.records) kept none next all refl
 ordered_sends (order.Resend s) at c messages kept none next all = part_is_sent (order.Resend s) at c messages s kept none next all refl
@@ -102,7 +102,7 @@ ordered_sends (order.Withdraw s) at c messages kept none next all =
 
 -- ---- messages
 
-pub taken_later : (m : Message) (at : ℕ) (c : Controllers) → IsKept c.master → IsValidBody m.body → AreLater c (with_master c (take_step m at c.master).next)
+pub taken_later : (m : Message) (at : ℕ) (c : Controllers) → IsConsistent c.master → IsValidBody m.body → AreLater c (with_master c (take_step m at c.master).next)
 taken_later m at c kept valid =
     record {
       name = (taken_by_master_names m at c.master).own;

@@ -34,7 +34,7 @@ use Rattle.world.proofs.Cases.{made_of}
 use Rattle.world.proofs.TakenSpawns.{phase_of_entry}
 use Rattle.world.proofs.AlwaysKept.{kept_after}
 use Rattle.world.proofs.Events.{event_is_replayed, events_are_replayed}
-use Rattle.world.proofs.GoingOn.{IsNew, as_often, one_if, stays_so}
+use Rattle.world.proofs.MergeAudits.{IsNew, as_often, one_if, stays_so}
 use Rattle.world.proofs.MasterEdits.{edit_refused}
 use Rattle.world.proofs.Opening.{opening_is_shown}
 use Rattle.world.proofs.MergesTell.{StandsAbove, StepTells, message_tells}
@@ -44,16 +44,16 @@ use Rattle.world.proofs.Resends.{spawn_found}
 use Rattle.world.proofs.ShopTells.{HaveNumbers, IsSilent, IsTold, TellsMore, is_above, tells_nothing, then_told, times}
 use Rattle.world.specs.Happening as world
 use Rattle.world.specs.Laws.{MergesAreTold}
-use Rattle.world.specs.MergeAudits.{AreToldAbove, GoOn, above_of, answer_tells, reply_tells, word_tells}
+use Rattle.world.specs.MergeAudits.{AuditsGrow, MergeAuditsMatch, above_of, answer_tells, reply_tells, word_tells}
 use Rattle.world.specs.Messages.{entry_for}
 use Rattle.world.specs.Once.{AreMergedOnce}
 use Rattle.world.specs.Replay as replay
-use Rattle.world.specs.Shop.{Rows, Shop, SpawnState, is_done, spawn_of}
+use Rattle.world.specs.Shop.{PlainState, Rows, SpawnState, is_done, spawn_of}
 use Rattle.world.specs.ShopActs as acts
 use Rattle.world.specs.ShopActs.{is_spawn}
-use Rattle.world.specs.ShopSteps.{Tag, edit_refusal, message_comes, worker_does}
+use Rattle.world.specs.ShopSteps.{Tag, edit_refusal, on_message, worker_does}
 use Rattle.world.specs.Showing.{phase_shown, row_at, shop_shown, shows, spawn_shown}
-use Rattle.world.specs.State.{IsKept, State, message_at, opening}
+use Rattle.world.specs.State.{IsConsistent, State, message_at, opening}
 use Rattle.controller.specs.Step.{Step}
 use Rattle.world.specs.Step.{StepOrWord}
 use Rattle.world_items.specs.declared.answer.Answer.{Answer}
@@ -72,7 +72,7 @@ none_of None e = refl
 none_of (Some x) e = absurd (true≢false e)
 
 -- what an edit adds has no row, as it is seen and as it is now
-added_new : (w : State) (e : Edit) → IsKept w → edit_refusal e (shop_shown w.controllers) ≡ None → IsNew e (shop_shown w.controllers).seen × IsNew e (shop_shown w.controllers).now
+added_new : (w : State) (e : Edit) → IsConsistent w → edit_refusal e (shop_shown w.controllers) ≡ None → IsNew e (shop_shown w.controllers).seen × IsNew e (shop_shown w.controllers).now
 added_new w e ok free =
     let c = w.controllers in
     let rows = c.master.ticket.rows in
@@ -90,7 +90,7 @@ known_above None u e = cc
 known_above (Some p) u e = refl
 
 -- what stands below another node goes on to
-up_stays : (w : State) (e : Edit) (n u : List ℕ) → IsKept w → edit_refusal e (shop_shown w.controllers) ≡ None → up (node_places w.controllers.master.ticket.rows) n ≡ Some u → up (nodes_in (plain_places e (places w.controllers.master.ticket.rows))) n ≡ Some u
+up_stays : (w : State) (e : Edit) (n u : List ℕ) → IsConsistent w → edit_refusal e (shop_shown w.controllers) ≡ None → up (node_places w.controllers.master.ticket.rows) n ≡ Some u → up (nodes_in (plain_places e (places w.controllers.master.ticket.rows))) n ≡ Some u
 up_stays w e n u ok free above =
     let c = w.controllers in
     let rows = c.master.ticket.rows in
@@ -106,7 +106,7 @@ up_of : (tree later : List Place) (o : Option SpawnState) (u : List ℕ) → ((n
 up_of tree later None u stays there = cc
 up_of tree later (Some a) u stays there = stays a.node there
 
-edits_stay : (w : State) (e : Edit) → IsKept w → edit_refusal e (shop_shown w.controllers) ≡ None → StaysAbove (shop_shown w.controllers) e
+edits_stay : (w : State) (e : Edit) → IsConsistent w → edit_refusal e (shop_shown w.controllers) ≡ None → StaysAbove (shop_shown w.controllers) e
 edits_stay w e ok free s u at there =
     let p = shop_shown w.controllers in
     up_of p.tree (plain_places e p.tree) (spawn_of s p) u (λ n above. up_stays w e n u ok free above) there
@@ -120,7 +120,7 @@ done_out recorded.Merged (Some entry) e = absurd (true≢false (sym e ∙ (phase
 done_out recorded.Withdrawn o e = absurd (true≢false (sym e))
 
 -- it has a parent, which the master holds
-stands_above : (w : State) (s : ℕ) (a : SpawnState) → IsKept w → spawn_of s (shop_shown w.controllers) ≡ Some a → is_done a.phase ≡ true → StandsAbove (shop_shown w.controllers) a
+stands_above : (w : State) (s : ℕ) (a : SpawnState) → IsConsistent w → spawn_of s (shop_shown w.controllers) ≡ Some a → is_done a.phase ≡ true → StandsAbove (shop_shown w.controllers) a
 stands_above w s a ok found done =
     let c = w.controllers in
     let m = c.master in
@@ -156,27 +156,27 @@ either_silent : (b : Bool) → IsSilent (cond b Restarted (Refused UnknownWorker
 either_silent true s = refl
 either_silent false s = refl
 
-worker_step_tells : (p : Shop) (moved : Step Shop Tag) (known : Bool) → Tells p moved → StepTells p (cond known (Ok moved) (Err (Refused UnknownWorker)))
+worker_step_tells : (p : PlainState) (moved : Step PlainState Tag) (known : Bool) → Tells p moved → StepTells p (cond known (Ok moved) (Err (Refused UnknownWorker)))
 worker_step_tells p moved true tells = tells
 worker_step_tells p moved false tells = λ s. refl
 
-delivery_tells : (p : Shop) (at : ℕ) (o : Option Tag) → ((t : Tag) → StepTells p (message_comes at p t)) → StepTells p (option_map_or (message_comes at p) o (Err NoMessage))
+delivery_tells : (p : PlainState) (at : ℕ) (o : Option Tag) → ((t : Tag) → StepTells p (on_message at p t)) → StepTells p (option_map_or (on_message at p) o (Err NoMessage))
 delivery_tells p at None tells = λ s. refl
 delivery_tells p at (Some t) tells = tells t
 
-what_tells : (w : State) (what : What) (at : ℕ) → IsKept w → HaveNumbers (shop_shown w.controllers) → StepTells (shop_shown w.controllers) (replay.step_of what at (shows w))
+what_tells : (w : State) (what : What) (at : ℕ) → IsConsistent w → HaveNumbers (shop_shown w.controllers) → StepTells (shop_shown w.controllers) (replay.step_of what at (shows w))
 what_tells w (MasterOrder o) at ok numbers = master_tells o at (shop_shown w.controllers) (λ e free. let new = added_new w e ok free in (new.0, new.1, edits_stay w e ok free))
 what_tells w (WorkerOrder name o) at ok numbers = worker_step_tells (shop_shown w.controllers) (worker_does name o at (shop_shown w.controllers)) (mem name (shop_shown w.controllers).workers) (worker_tells name o at (shop_shown w.controllers))
 what_tells w (Deliver k) at ok numbers = delivery_tells (shop_shown w.controllers) at (message_at (shows w).tags k) (λ t. message_tells t at (shop_shown w.controllers) numbers (λ s a found done. stands_above w s a ok found done))
 what_tells w (Restart name) at ok numbers = either_silent (bytes_eq name w.controllers.master.name || mem name w.controllers.master.workers)
 
-settled_tells : (stop : Stop) (p : replay.Shown) (step : StepOrWord Shop Tag) → StepTells p.shop step → TellsMore (times (replay.settled_word stop p step).word) p.shop (replay.settled stop p step).shop
+settled_tells : (stop : Stop) (p : replay.TaggedShop) (step : StepOrWord PlainState Tag) → StepTells p.shop step → TellsMore (times (replay.next_answer stop p step).word) p.shop (replay.next_state stop p step).shop
 settled_tells Run p (Ok moved) tells = tells
 settled_tells BeforeSave p (Ok moved) tells = tells_nothing Stopped p.shop (λ s. refl)
 settled_tells BeforeSend p (Ok moved) tells = tells
 settled_tells stop p (Err word) tells = tells_nothing word p.shop tells
 
-event_tells : (e : Event) (w : State) → IsKept w → HaveNumbers (shop_shown w.controllers) → TellsMore (times (replay.answer_to e (shows w)).word) (shop_shown w.controllers) (replay.after e (shows w)).shop
+event_tells : (e : Event) (w : State) → IsConsistent w → HaveNumbers (shop_shown w.controllers) → TellsMore (times (replay.answer_to e (shows w)).word) (shop_shown w.controllers) (replay.after e (shows w)).shop
 event_tells e w ok numbers = settled_tells e.stop (shows w) (replay.step_of e.what e.at (shows w)) (what_tells w e.what e.at ok numbers)
 
 -- ---- events in turn
@@ -185,10 +185,10 @@ event_tells e w ok numbers = settled_tells e.stop (shows w) (replay.step_of e.wh
 abbrev pub told_in : List Answer → ℕ → ℕ
 told_in answers s = count_by (answer_tells s) answers
 
-told_as : (first : Rows) (f g : ℕ → ℕ) (p : Shop) → ((s : ℕ) → f s ≡ g s) → IsTold first f p → IsTold first g p
+told_as : (first : Rows) (f g : ℕ → ℕ) (p : PlainState) → ((s : ℕ) → f s ≡ g s) → IsTold first f p → IsTold first g p
 told_as first f g p same = subst (λ h. IsTold first h p) (λ j s. same s j)
 
-events_tell : (events : List Event) (w : State) (first : Rows) (before : ℕ → ℕ) → IsKept w → IsTold first before (shop_shown w.controllers)
+events_tell : (events : List Event) (w : State) (first : Rows) (before : ℕ → ℕ) → IsConsistent w → IsTold first before (shop_shown w.controllers)
     → IsTold first (λ s. before s + told_in (replay.answers_to events (shows w)) s) (replay.after_all events (shows w)).shop
 events_tell [] w first before ok is = told_as first before (λ s. before s + told_in [] s) (shop_shown w.controllers) (λ s. sym (add-zero (before s))) is
 events_tell (e ∷ events) w first before ok is =
@@ -196,9 +196,9 @@ events_tell (e ∷ events) w first before ok is =
     let answer = replay.answer_to e (shows w) in
     let shown : shows next ≡ replay.after e (shows w) = (event_is_replayed w e ok).1 in
     let one = then_told first before (times answer.word) (shop_shown w.controllers) (replay.after e (shows w)).shop is (event_tells e w ok is.numbers) in
-    let then : IsTold first (λ s. before s + times answer.word s) (shop_shown next.controllers) = subst (λ (q : replay.Shown). IsTold first (λ s. before s + times answer.word s) q.shop) (sym shown) one in
+    let then : IsTold first (λ s. before s + times answer.word s) (shop_shown next.controllers) = subst (λ (q : replay.TaggedShop). IsTold first (λ s. before s + times answer.word s) q.shop) (sym shown) one in
     let rest = events_tell events next first (λ s. before s + times answer.word s) (kept_after e w ok) then in
-    let moved = subst (λ (q : replay.Shown). IsTold first (λ s. before s + times answer.word s + told_in (replay.answers_to events q) s) (replay.after_all events q).shop) shown rest in
+    let moved = subst (λ (q : replay.TaggedShop). IsTold first (λ s. before s + times answer.word s + told_in (replay.answers_to events q) s) (replay.after_all events q).shop) shown rest in
     told_as first (λ s. before s + times answer.word s + told_in (replay.answers_to events (replay.after e (shows w))) s) (λ s. before s + told_in (answer ∷ replay.answers_to events (replay.after e (shows w))) s) (replay.after_all events (replay.after e (shows w))).shop (λ s. one_first s (before s) answer (replay.answers_to events (replay.after e (shows w)))) moved
   where
     one_first : (s m : ℕ) (a : Answer) (rest : List Answer) → m + times a.word s + told_in rest s ≡ m + told_in (a ∷ rest) s
@@ -252,35 +252,35 @@ in_once s (a ∷ rest) once =
 
 -- ---- from the beginning on
 
-told_above : (first : Rows) (answers : List Answer) (p : Shop) (s : ℕ) (u : List ℕ) → IsTold first (λ t. 0 + told_in answers t) p → AreMergedOnce answers → above_of s p ≡ Some u
-    → GoOn s (one_if (list_any (answer_tells s) answers)) (first u) (p.seen u) × GoOn s (one_if (list_any (answer_tells s) answers)) (first u) (p.now u)
+told_above : (first : Rows) (answers : List Answer) (p : PlainState) (s : ℕ) (u : List ℕ) → IsTold first (λ t. 0 + told_in answers t) p → AreMergedOnce answers → above_of s p ≡ Some u
+    → AuditsGrow s (one_if (list_any (answer_tells s) answers)) (first u) (p.seen u) × AuditsGrow s (one_if (list_any (answer_tells s) answers)) (first u) (p.now u)
 told_above first answers p s u is once there =
     let own : is_above s p u ≡ true = ap (λ o. option_map_or (λ v. bytes_eq v u) o false) there ∙ bytes_eq-same u in
     let sum : told_in answers s ≡ one_if (list_any (answer_tells s) answers) = in_once s answers (λ i j a b at other one two. once s i j a b at other (word_told s a.word one) (word_told s b.word two)) in
     let all : cond (is_above s p u) (0 + told_in answers s) 0 ≡ one_if (list_any (answer_tells s) answers) = ap (λ b. cond b (0 + told_in answers s) 0) own ∙ omega (arith, sum) in
     (as_often s (cond (is_above s p u) (0 + told_in answers s) 0) (one_if (list_any (answer_tells s) answers)) (first u) (p.seen u) all (is.seen s u), as_often s (cond (is_above s p u) (0 + told_in answers s) 0) (one_if (list_any (answer_tells s) answers)) (first u) (p.now u) all (is.now s u))
 
-told_from : (name : List ℕ) (workers : List (List ℕ)) (ticket : Job) (events : List Event) → IsKept (opening name workers ticket) → AreToldAbove ticket (replay.answers_to events (shows (opening name workers ticket))) (replay.after_all events (shows (opening name workers ticket))).shop
+told_from : (name : List ℕ) (workers : List (List ℕ)) (ticket : Job) (events : List Event) → IsConsistent (opening name workers ticket) → MergeAuditsMatch ticket (replay.answers_to events (shows (opening name workers ticket))) (replay.after_all events (shows (opening name workers ticket))).shop
 told_from name workers ticket events ok s u there =
     let w = opening name workers ticket in
-    let first : IsTold (row_in ticket.rows) (λ t. 0) (shop_shown w.controllers) = subst (λ (q : replay.Shown). IsTold (row_in ticket.rows) (λ t. 0) q.shop) (sym (opening_is_shown name workers ticket)) (opening_told name workers ticket) in
+    let first : IsTold (row_in ticket.rows) (λ t. 0) (shop_shown w.controllers) = subst (λ (q : replay.TaggedShop). IsTold (row_in ticket.rows) (λ t. 0) q.shop) (sym (opening_is_shown name workers ticket)) (opening_told name workers ticket) in
     let once : AreMergedOnce (replay.answers_to events (shows w)) = subst AreMergedOnce (events_are_replayed w events ok).0 (each_is_merged_once w events ok).0 in
     told_above (row_in ticket.rows) (replay.answers_to events (shows w)) (replay.after_all events (shows w)).shop s u (events_tell events w (row_in ticket.rows) (λ t. 0) ok first) once there
 
 pub merges_are_told : MergesAreTold
 merges_are_told name workers ticket events ok =
-    subst (λ (q : replay.Shown). AreToldAbove ticket (replay.answers_to events q) (replay.after_all events q).shop) (opening_is_shown name workers ticket) (told_from name workers ticket events ok)
+    subst (λ (q : replay.TaggedShop). MergeAuditsMatch ticket (replay.answers_to events q) (replay.after_all events q).shop) (opening_is_shown name workers ticket) (told_from name workers ticket events ok)
 
 -- of a run
 abbrev pub TellsFromOpening : State → List Answer → State → Type 0
-TellsFromOpening w answers now = (name : List ℕ) (workers : List (List ℕ)) (ticket : Job) → w ≡ opening name workers ticket → AreToldAbove ticket answers (shows now).shop
+TellsFromOpening w answers now = (name : List ℕ) (workers : List (List ℕ)) (ticket : Job) → w ≡ opening name workers ticket → MergeAuditsMatch ticket answers (shows now).shop
 
-pub run_told : (events : List Event) (w now : State) (answers : List Answer) → IsKept w → answers ≡ world.answers_to events w → now ≡ world.after_all events w → TellsFromOpening w answers now
+pub run_told : (events : List Event) (w now : State) (answers : List Answer) → IsConsistent w → answers ≡ world.answers_to events w → now ≡ world.after_all events w → TellsFromOpening w answers now
 run_told events w now answers ok are is name workers ticket from =
     let start = opening name workers ticket in
-    let kept : IsKept start = subst IsKept from ok in
+    let kept : IsConsistent start = subst IsConsistent from ok in
     let replayed = events_are_replayed start events kept in
     let said : answers ≡ replay.answers_to events (shows start) = are ∙ ap (world.answers_to events) from ∙ replayed.0 in
     let shown : shows now ≡ replay.after_all events (shows start) = ap shows (is ∙ ap (world.after_all events) from) ∙ replayed.1 in
-    subst (λ as'. AreToldAbove ticket as' (shows now).shop) (sym said)
-    (subst (λ (q : replay.Shown). AreToldAbove ticket (replay.answers_to events (shows start)) q.shop) (sym shown) (told_from name workers ticket events kept))
+    subst (λ as'. MergeAuditsMatch ticket as' (shows now).shop) (sym said)
+    (subst (λ (q : replay.TaggedShop). MergeAuditsMatch ticket (replay.answers_to events (shows start)) q.shop) (sym shown) (told_from name workers ticket events kept))

@@ -18,27 +18,27 @@ use Rattle.world.specs.Laws.{OpeningIsShown}
 use Rattle.world.specs.Messages.{AreInOrder, AreRecorded, HasComeBack}
 use Rattle.world.specs.ShopActs as acts
 use Rattle.world.specs.Showing.{row_at, seen_shown, shop_shown}
-use Rattle.world.specs.State.{IsKept, new_worker, opening, state}
+use Rattle.world.specs.State.{IsConsistent, new_worker, opening, state}
 
 -- each new worker has its name
-named : (m : List ℕ) (names : List (List ℕ)) → map (λ (v : worker.Known). v.name) (map (new_worker m) names) ≡ names
+named : (m : List ℕ) (names : List (List ℕ)) → map (λ (v : worker.State). v.name) (map (new_worker m) names) ≡ names
 named m [] = refl
 named m (x ∷ names) = ap (λ xs. x ∷ xs) (named m names)
 
 -- and knows the master
-known : (m : List ℕ) (names : List (List ℕ)) → All (λ (v : worker.Known). v.master ≡ m) (map (new_worker m) names)
+known : (m : List ℕ) (names : List (List ℕ)) → All (λ (v : worker.State). v.master ≡ m) (map (new_worker m) names)
 known m [] = All-nil _
-known m (x ∷ names) = All-cons (λ (v : worker.Known). v.master ≡ m) (new_worker m x) (map (new_worker m) names) refl (known m names)
+known m (x ∷ names) = All-cons (λ (v : worker.State). v.master ≡ m) (new_worker m x) (map (new_worker m) names) refl (known m names)
 
 -- a new worker of another name is in order
-new_kept : (m x : List ℕ) → bytes_eq x m ≡ false → worker.IsKept (new_worker m x)
+new_kept : (m x : List ℕ) → bytes_eq x m ≡ false → worker.IsConsistent (new_worker m x)
 new_kept m x apart = record { apart = apart; once = refl; each = All-nil _ }
 
-kept : (m : List ℕ) (names : List (List ℕ)) → mem m names ≡ false → All worker.IsKept (map (new_worker m) names)
+kept : (m : List ℕ) (names : List (List ℕ)) → mem m names ≡ false → All worker.IsConsistent (map (new_worker m) names)
 kept m [] out = All-nil _
 kept m (x ∷ names) out =
     let parts = or_parts (bytes_eq x m) (mem m names) out in
-    All-cons worker.IsKept (new_worker m x) (map (new_worker m) names) (new_kept m x parts.0) (kept m names parts.1)
+    All-cons worker.IsConsistent (new_worker m x) (map (new_worker m) names) (new_kept m x parts.0) (kept m names parts.1)
 
 -- none has an entry
 recorded : (c : Controllers) (m : List ℕ) (names : List (List ℕ)) → All (AreRecorded c) (map (new_worker m) names)
@@ -49,15 +49,15 @@ recorded c m (x ∷ names) = All-cons (AreRecorded c) (new_worker m x) (map (new
 nothing_sent : (c : Controllers) → AreInOrder c []
 nothing_sent c = record { each = All-nil _; one = λ m n here there both. absurd (omega (arith, here.1)) }
 
-pub opening_kept : (m : master.Known) (workers : List worker.Known) (messages : List Message) → master.IsKept m → workers ≡ map (new_worker m.name) m.workers → messages ≡ [] → m.records ≡ [] → IsKept (state m workers messages)
+pub opening_kept : (m : master.State) (workers : List worker.State) (messages : List Message) → master.IsConsistent m → workers ≡ map (new_worker m.name) m.workers → messages ≡ [] → m.records ≡ [] → IsConsistent (state m workers messages)
 opening_kept m workers messages ok is none nothing =
     let out : mem m.name m.workers ≡ false = not-true _ (and_parts _ _ ok.names).0 in
     let c : Controllers = record { master = m; workers = workers } in
     record {
       master = ok;
-      named = ap (map (λ (v : worker.Known). v.name)) is ∙ named m.name m.workers;
-      known = subst (All (λ (v : worker.Known). v.master ≡ m.name)) (sym is) (known m.name m.workers);
-      workers = subst (All worker.IsKept) (sym is) (kept m.name m.workers out);
+      named = ap (map (λ (v : worker.State). v.name)) is ∙ named m.name m.workers;
+      known = subst (All (λ (v : worker.State). v.master ≡ m.name)) (sym is) (known m.name m.workers);
+      workers = subst (All worker.IsConsistent) (sym is) (kept m.name m.workers out);
       recorded = subst (All (AreRecorded c)) (sym is) (recorded c m.name m.workers);
       messages = subst (AreInOrder c) (sym none) (nothing_sent c);
       back = subst (All (HasComeBack c)) (sym nothing) (All-nil _);

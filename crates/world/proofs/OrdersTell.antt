@@ -23,36 +23,36 @@ use Rattle.worker_core.specs.Orders.{spawn_of_order}
 use Rattle.worker_core.specs.Worker.{end_word}
 use Rattle.worker_core.specs.declared.order.Order as worker_order
 use Rattle.worker_core.specs.declared.order.Order.TheVariants as to_worker
-use Rattle.world.proofs.GoingOn.{IsNew, edit_is_quiet, telling_is_quiet}
+use Rattle.world.proofs.MergeAudits.{IsNew, edit_is_quiet, telling_is_quiet}
 use Rattle.world.proofs.ShopTells.{SpawnsStay, TellsMore, phase_stays, same_rows, tells_none, tells_nothing, times}
 use Rattle.world.specs.MergeAudits.{above_of}
-use Rattle.world.specs.Shop.{Done, Shop, SpawnState, has_number, is_open, next_number, spawn_of}
-use Rattle.world.specs.ShopActs.{edited, finished, next_spawn, sent_out, spawned, spawned_audit, worked}
-use Rattle.world.specs.ShopSteps.{Abort, Return, Submit, Tag, back_refusal, edit_refusal, is_held, is_taken_by, is_to_read, master_does, not_held, replies, resend_refusal, sends, spawn_refusal, spawn_worked, work_refusal, worker_does}
-use Rattle.controller.specs.Step.{Step, refused, unless_refused}
+use Rattle.world.specs.Shop.{Done, PlainState, SpawnState, has_number, is_open, next_number, spawn_of}
+use Rattle.world.specs.ShopActs.{after_edit, after_finish, after_sending, after_spawn, after_work, next_spawn, spawned_audit}
+use Rattle.world.specs.ShopSteps.{Abort, Return, Submit, Tag, back_refusal, edit_refusal, is_held, is_taken_by, is_to_read, master_does, not_held, on_order, quiet_step, resend_refusal, sending_step, spawn_refusal, work_refusal, worker_does}
+use Rattle.controller.specs.Step.{Step, refused_step, unless_refused}
 use Rattle.world_items.specs.Word.{word_of}
 use Rattle.world_items.specs.declared.word.Word.TheVariants.{Did, Refused}
 
 -- a step of a shop tells of a merge in its audits as often as in its word
-abbrev pub Tells : Shop → Step Shop Tag → Type 0
+abbrev pub Tells : PlainState → Step PlainState Tag → Type 0
 Tells p moved = TellsMore (times (word_of moved.reply)) p moved.next
 
 -- what is refused tells nothing
-pub refused_or_tells : (why : Option Refusal) (p : Shop) (moved : Step Shop Tag) → (why ≡ None → Tells p moved) → Tells p (unless_refused why p moved)
+pub refused_or_tells : (why : Option Refusal) (p : PlainState) (moved : Step PlainState Tag) → (why ≡ None → Tells p moved) → Tells p (unless_refused why p moved)
 refused_or_tells None p moved go = go refl
 refused_or_tells (Some e) p moved go = tells_nothing (Refused e) p (λ s. refl)
 
 -- ---- edits
 
 -- the spawns stay where the shop's tree is edited
-abbrev pub StaysAbove : Shop → Edit → Type 0
-StaysAbove p e = (s : ℕ) (u : List ℕ) (at : ℕ) → above_of s p ≡ Some u → above_of s (edited e at p) ≡ Some u
+abbrev pub StaysAbove : PlainState → Edit → Type 0
+StaysAbove p e = (s : ℕ) (u : List ℕ) (at : ℕ) → above_of s p ≡ Some u → above_of s (after_edit e at p) ≡ Some u
 
-pub edit_tells : (e : Edit) (at : ℕ) (p : Shop) → (edit_refusal e p ≡ None → IsNew e p.seen × IsNew e p.now × StaysAbove p e) → Tells p (master_does (to_master.Edit e) at p)
+pub edit_tells : (e : Edit) (at : ℕ) (p : PlainState) → (edit_refusal e p ≡ None → IsNew e p.seen × IsNew e p.now × StaysAbove p e) → Tells p (master_does (to_master.Edit e) at p)
 edit_tells e at p free =
-    refused_or_tells (edit_refusal e p) p (replies reply.Edited (edited e at p)) (λ none.
+    refused_or_tells (edit_refusal e p) p (quiet_step reply.Edited (after_edit e at p)) (λ none.
     let new = free none in
-    tells_none (Did reply.Edited) p (edited e at p) (λ s. refl) (λ s x. edit_is_quiet e at s p.seen x new.0) (λ s x. edit_is_quiet e at s p.now x new.1)
+    tells_none (Did reply.Edited) p (after_edit e at p) (λ s. refl) (λ s x. edit_is_quiet e at s p.seen x new.0) (λ s x. edit_is_quiet e at s p.now x new.1)
     (record { above = λ s u there. new.2 s u at there; numbers = λ s there. inl there }))
 
 -- what isn't structural adds nothing
@@ -92,19 +92,19 @@ found_in a s (Some x) b is number there = inl refl
 found_in a s None true is number there = inr (ap is_spawn_number (sym (eqb-true a.number s is)) ∙ number)
 found_in a s None false is number there = cc
 
-spawn_stays : (a : SpawnState) (at : ℕ) (p : Shop) → is_spawn_number a.number ≡ true → SpawnsStay p (sent_out a at p)
+spawn_stays : (a : SpawnState) (at : ℕ) (p : PlainState) → is_spawn_number a.number ≡ true → SpawnsStay p (after_sending a at p)
 spawn_stays a at p number =
     record {
       above = λ s u there. ap (option_and_then (λ b. up (nodes_in p.tree) b.node)) (find-append (has_number s) p.spawns (a ∷ [])) ∙ found_before _ (spawn_of s p) (find (has_number s) (a ∷ [])) u there;
       numbers = λ s there. found_in a s (spawn_of s p) (a.number == s) refl number (sym (ap is_some (find-append (has_number s) p.spawns (a ∷ []))) ∙ there);
     }
 
-spawn_tells : (n worker : List ℕ) (rw : List (List ℕ)) (at : ℕ) (p : Shop) → Tells p (master_does (to_master.Spawn n worker rw) at p)
+spawn_tells : (n worker : List ℕ) (rw : List (List ℕ)) (at : ℕ) (p : PlainState) → Tells p (master_does (to_master.Spawn n worker rw) at p)
 spawn_tells n worker rw at p =
     let a = next_spawn n worker rw p in
     let audit = spawned_audit a at p in
-    refused_or_tells (spawn_refusal n worker rw p) p (sends (reply.Spawned (next_number p)) (spawned n worker rw at p) (Submit (next_number p))) (λ none.
-    tells_none (Did (reply.Spawned (next_number p))) p (spawned n worker rw at p) (λ s. refl)
+    refused_or_tells (spawn_refusal n worker rw p) p (sending_step (reply.Spawned (next_number p)) (after_spawn n worker rw at p) (Submit (next_number p))) (λ none.
+    tells_none (Did (reply.Spawned (next_number p))) p (after_spawn n worker rw at p) (λ s. refl)
     (λ s x. telling_is_quiet s p.tree n audit p.seen x (λ t. refl))
     (λ s x. telling_is_quiet s p.tree n audit p.now x (λ t. refl))
     (spawn_stays a at p (spawn_number
@@ -116,29 +116,29 @@ spawn_tells n worker rw at p =
     (first_of (map (not_held p) (ids_of (claim p.tree n rw))))
     (is_spawn_number (next_number p)) none)))
 
-pub master_tells : (o : master_order.Order) (at : ℕ) (p : Shop) → ((e : Edit) → edit_refusal e p ≡ None → IsNew e p.seen × IsNew e p.now × StaysAbove p e) → Tells p (master_does o at p)
+pub master_tells : (o : master_order.Order) (at : ℕ) (p : PlainState) → ((e : Edit) → edit_refusal e p ≡ None → IsNew e p.seen × IsNew e p.now × StaysAbove p e) → Tells p (master_does o at p)
 master_tells (to_master.Edit e) at p free = edit_tells e at p (free e)
 master_tells (to_master.Spawn n worker rw) at p free = spawn_tells n worker rw at p
-master_tells (to_master.Resend s) at p free = refused_or_tells (resend_refusal s p) p (sends (reply.Sent s) p (Submit s)) (λ none. tells_nothing (Did (reply.Sent s)) p (λ t. refl))
-master_tells (to_master.Withdraw s) at p free = refused_or_tells (resend_refusal s p) p (sends (reply.Asked s) p (Abort s)) (λ none. tells_nothing (Did (reply.Asked s)) p (λ t. refl))
+master_tells (to_master.Resend s) at p free = refused_or_tells (resend_refusal s p) p (sending_step (reply.Sent s) p (Submit s)) (λ none. tells_nothing (Did (reply.Sent s)) p (λ t. refl))
+master_tells (to_master.Withdraw s) at p free = refused_or_tells (resend_refusal s p) p (sending_step (reply.Asked s) p (Abort s)) (λ none. tells_nothing (Did (reply.Asked s)) p (λ t. refl))
 
 -- ---- a worker
 
-work_tells : (o : worker_order.Order) (at : ℕ) (p : Shop) (a : SpawnState) → Tells p (spawn_worked o at p a)
+work_tells : (o : worker_order.Order) (at : ℕ) (p : PlainState) (a : SpawnState) → Tells p (on_order o at p a)
 work_tells (to_worker.Edit s e) at p a =
-    refused_or_tells (work_refusal e a p) p (replies reply.Edited (worked e at p)) (λ none.
+    refused_or_tells (work_refusal e a p) p (quiet_step reply.Edited (after_work e at p)) (λ none.
     let plain = plain_by (is_open a.phase) (is_structural e) (unless (is_held e a p || is_to_read e a p) NotInPart ∷ unless (not (is_to_read e a p)) ReadOnly ∷ later_refusal e (plain_lookups p.tree) ∷ []) none in
-    tells_none (Did reply.Edited) p (worked e at p) (λ t. refl) (same_rows p.seen) (λ t x. edit_is_quiet e at t p.now x (λ i added. absurd (plain_adds e i plain added)))
+    tells_none (Did reply.Edited) p (after_work e at p) (λ t. refl) (same_rows p.seen) (λ t x. edit_is_quiet e at t p.now x (λ i added. absurd (plain_adds e i plain added)))
     (record { above = λ t u there. there; numbers = λ t there. inl there }))
 work_tells (to_worker.Finish s how) at p a =
-    refused_or_tells (unless (is_open a.phase) NotOpen) p (sends (reply.Finished s) (finished how at a p) (Return s)) (λ none.
-    tells_none (Did (reply.Finished s)) p (finished how at a p) (λ t. refl) (same_rows p.seen) (λ t x. edit_is_quiet (SetStatus a.node (end_word how)) at t p.now x (λ i added. cc))
-    (phase_stays p (finished how at a p) Done a.number refl refl))
-work_tells (to_worker.Resend s) at p a = refused_or_tells (back_refusal a.phase) p (sends (reply.Sent s) p (Return s)) (λ none. tells_nothing (Did (reply.Sent s)) p (λ t. refl))
+    refused_or_tells (unless (is_open a.phase) NotOpen) p (sending_step (reply.Finished s) (after_finish how at a p) (Return s)) (λ none.
+    tells_none (Did (reply.Finished s)) p (after_finish how at a p) (λ t. refl) (same_rows p.seen) (λ t x. edit_is_quiet (SetStatus a.node (end_word how)) at t p.now x (λ i added. cc))
+    (phase_stays p (after_finish how at a p) Done a.number refl refl))
+work_tells (to_worker.Resend s) at p a = refused_or_tells (back_refusal a.phase) p (sending_step (reply.Sent s) p (Return s)) (λ none. tells_nothing (Did (reply.Sent s)) p (λ t. refl))
 
-found_tells : (o : worker_order.Order) (at : ℕ) (p : Shop) (found : Option SpawnState) → Tells p (option_map_or (spawn_worked o at p) found (refused UnknownEntry p))
+found_tells : (o : worker_order.Order) (at : ℕ) (p : PlainState) (found : Option SpawnState) → Tells p (option_map_or (on_order o at p) found (refused_step UnknownEntry p))
 found_tells o at p None = tells_nothing (Refused UnknownEntry) p (λ s. refl)
 found_tells o at p (Some a) = work_tells o at p a
 
-pub worker_tells : (name : List ℕ) (o : worker_order.Order) (at : ℕ) (p : Shop) → Tells p (worker_does name o at p)
+pub worker_tells : (name : List ℕ) (o : worker_order.Order) (at : ℕ) (p : PlainState) → Tells p (worker_does name o at p)
 worker_tells name o at p = found_tells o at p (find (is_taken_by name (spawn_of_order o)) p.spawns)

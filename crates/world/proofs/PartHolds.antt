@@ -19,7 +19,7 @@ use Rattle.ticket_tree.proofs.LookUps.{nodes_among_places}
 use Rattle.ticket_tree.proofs.OnPlaces.{has_resource-any, stands_node, stands_resource, stands_somewhere}
 use Rattle.ticket_tree.proofs.PartEdits.{ids_in_part}
 use Rattle.ticket_tree.proofs.PlainRows.{apart_resource, mem-resource_ids}
-use Rattle.ticket_tree.specs.Part.{Copied}
+use Rattle.ticket_tree.specs.Part.{PartCopy}
 use Rattle.ticket_tree.specs.PlainEdit.{stands}
 use Rattle.spawn.proofs.Among.{kept_keys}
 use Rattle.spawn.proofs.HomesBelow.{home_stands, homeless, or_right}
@@ -27,7 +27,7 @@ use Rattle.spawn.proofs.PartShows.{copy_no_node}
 use Rattle.spawn.proofs.SoundPart.{false_by}
 use Rattle.spawn.proofs.Standing.{named}
 use Rattle.spawn.specs.Claim.{is_claimed}
-use Rattle.spawn.specs.Parts.{above, lifted, part_for}
+use Rattle.spawn.specs.Parts.{above, lifted_row, part_for}
 use Rattle.ticket_tree.specs.At.{rows_below}
 use Rattle.spawn.specs.Records.{IsGood}
 use Rattle.spawn.specs.declared.records.spawn_rec.SpawnRec.{SpawnRec}
@@ -44,10 +44,10 @@ claims t r x = option_map_or (is_claimed r.node r.rw) (place_at (places t.rows) 
 
 -- ---- nodes
 
-same_node : (p q : Copied) (t : Job) (r : SpawnRec) (x : List ℕ) → places p.rows ≡ places q.rows → has_node p.rows x ≡ has_node q.rows x
+same_node : (p q : PartCopy) (t : Job) (r : SpawnRec) (x : List ℕ) → places p.rows ≡ places q.rows → has_node p.rows x ≡ has_node q.rows x
 same_node p q t r x same = sym (stands_node p.rows x) ∙ ap (λ ps. stands (nodes_in ps) x) same ∙ stands_node q.rows x
 
-lifted_nodes : (levels : ℕ) (rows : List NodeRow) → node_ids (map (lifted levels) rows) ≡ node_ids rows
+lifted_nodes : (levels : ℕ) (rows : List NodeRow) → node_ids (map (lifted_row levels) rows) ≡ node_ids rows
 lifted_nodes levels [] = refl
 lifted_nodes levels (r ∷ rows) = ap (λ is. r.id ∷ is) (lifted_nodes levels rows)
 
@@ -87,7 +87,7 @@ node_claimed t r x valid good known =
     ap (λ o. option_map_or (below r.node) o false) found.1 ∙ sym (or_none (below r.node p) (mem p.id r.rw) no_copy) ∙ sym (ap (λ o. option_map_or (is_claimed r.node r.rw) o false) there)
 
 -- a part has the nodes that are claimed
-part_node : (t : Job) (r : SpawnRec) (p : Copied) (x : List ℕ) → IsValid t.rows → IsGood t.rows r → Fits t r p → has_node p.rows x ≡ (has_node t.rows x && claims t r x)
+part_node : (t : Job) (r : SpawnRec) (p : PartCopy) (x : List ℕ) → IsValid t.rows → IsGood t.rows r → Fits t r p → has_node p.rows x ≡ (has_node t.rows x && claims t r x)
 part_node t r p x valid good fits =
     same_node p (part_for t r) t r x (same_places p.rows (part_for t r).rows fits.rows) ∙ made_node t r x
     ∙ split (has_node t.rows x)
@@ -129,27 +129,27 @@ claimed_stands t r x claimed = sym (stands_somewhere t.rows x) ∙ by (place_at 
     by (Some p) e = refl
 
 -- nor is a resource a node
-resource_apart : (p : Copied) (x : List ℕ) → AreApart p.rows p.rw → (has_resource p.rows x || mem x (resource_ids p.rw)) ≡ true → has_node p.rows x ≡ false
+resource_apart : (p : PartCopy) (x : List ℕ) → AreApart p.rows p.rw → (has_resource p.rows x || mem x (resource_ids p.rw)) ≡ true → has_node p.rows x ≡ false
 resource_apart p x apart here =
     sym (mem-node_ids p.rows x)
     ∙ split (has_resource p.rows x)
     (λ known. resource_no_node x p.rows apart.rows_distinct (mem-resource_ids x p.rows ∙ has_resource-any p.rows x ∙ known))
     (λ missing. no_node_id x p.rows (apart.apart x (sym (ap (λ b. b || mem x (resource_ids p.rw)) missing) ∙ here)))
 
-has_own : (p : Copied) (x : List ℕ) → (has_resource p.rows x || mem x (resource_ids p.rw)) ≡ true → has p x ≡ true
+has_own : (p : PartCopy) (x : List ℕ) → (has_resource p.rows x || mem x (resource_ids p.rw)) ≡ true → has p x ≡ true
 has_own p x here =
     split (has_resource p.rows x)
     (λ known. ap (λ b. b || mem x (resource_ids p.rw)) (among p.rows x known))
     (λ missing. or_right (mem x (ids p.rows)) (mem x (resource_ids p.rw)) (sym (ap (λ b. b || mem x (resource_ids p.rw)) missing) ∙ here))
 
-own_has : (p : Copied) (x : List ℕ) → has p x ≡ true → has_node p.rows x ≡ false → (has_resource p.rows x || mem x (resource_ids p.rw)) ≡ true
+own_has : (p : PartCopy) (x : List ℕ) → has p x ≡ true → has_node p.rows x ≡ false → (has_resource p.rows x || mem x (resource_ids p.rw)) ≡ true
 own_has p x here no_node =
     split (mem x (ids p.rows))
     (λ there. ap (λ b. b || mem x (resource_ids p.rw)) (resource_stands p.rows x there no_node))
     (λ out. or_right (has_resource p.rows x) (mem x (resource_ids p.rw)) (sym (ap (λ b. b || mem x (resource_ids p.rw)) out) ∙ here))
 
 -- a part has the resources that are claimed, in its pools or as copies to change
-part_resource : (t : Job) (r : SpawnRec) (p : Copied) (x : List ℕ) → IsValid t.rows → IsGood t.rows r → Fits t r p → IsValid (with_copies p.rows p.rw p.ro) → (has_resource p.rows x || mem x (resource_ids p.rw)) ≡ (has_resource t.rows x && claims t r x)
+part_resource : (t : Job) (r : SpawnRec) (p : PartCopy) (x : List ℕ) → IsValid t.rows → IsGood t.rows r → Fits t r p → IsValid (with_copies p.rows p.rw p.ro) → (has_resource p.rows x || mem x (resource_ids p.rw)) ≡ (has_resource t.rows x && claims t r x)
 part_resource t r p x valid good fits whole =
     let has_so : has p x ≡ claims t r x = fits_has t r p x fits ∙ part_has t r x valid good in
     let node_so = part_node t r p x valid good fits in
@@ -170,7 +170,7 @@ by_kind true a b c nodes resources x of_nodes of_resources = of_nodes
 by_kind false a b c nodes resources x of_nodes of_resources = of_resources
 
 -- it is in a part just where it stands as what is meant, and is claimed
-pub here_so : (e : Edit) (t : Job) (r : SpawnRec) (p : Copied) → IsValid t.rows → IsGood t.rows r → Fits t r p → IsValid (with_copies p.rows p.rw p.ro) → is_here e p ≡ (stands (cond (is_of_node e) (nodes_in (places t.rows)) (resources_in (places t.rows))) (target e) && claims t r (target e))
+pub here_so : (e : Edit) (t : Job) (r : SpawnRec) (p : PartCopy) → IsValid t.rows → IsGood t.rows r → Fits t r p → IsValid (with_copies p.rows p.rw p.ro) → is_here e p ≡ (stands (cond (is_of_node e) (nodes_in (places t.rows)) (resources_in (places t.rows))) (target e) && claims t r (target e))
 here_so e t r p valid good fits whole =
     let x = target e in
     by_kind (is_of_node e) (has_node p.rows x) (has_resource p.rows x || mem x (resource_ids p.rw)) (claims t r x) (nodes_in (places t.rows)) (resources_in (places t.rows)) x

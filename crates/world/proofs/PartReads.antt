@@ -17,7 +17,7 @@ use Rattle.ticket_rows.specs.Copies.{with_copies}
 use Rattle.ticket_rows.specs.Homes.{home_of}
 use Rattle.ticket_rows.specs.Place.{links_of, path_of, places}
 use Rattle.ticket_rows.specs.Ticket.{IsValid, Job, ids, ids_of}
-use Rattle.ticket_tree.specs.Part.{Copied, are_linked, is_linked, is_sound}
+use Rattle.ticket_tree.specs.Part.{PartCopy, are_linked, is_linked, is_sound}
 use Rattle.spawn.proofs.Among.{mem_back}
 use Rattle.spawn.proofs.GoodCopies.{first_of_fixed, reads_ids}
 use Rattle.spawn.proofs.HomesBelow.{home_stands}
@@ -108,7 +108,7 @@ shapes_link : (rows : List NodeRow) (x : List ℕ) → list_any (λ (s : Shape).
 shapes_link [] x = refl
 shapes_link (r ∷ rows) x = ap (λ b. list_any (λ (l : Link). bytes_eq l.rref x) r.links || b) (shapes_link rows x)
 
-same_reads : (p q : Copied) (x : List ℕ) → map shape p.rows ≡ map shape q.rows → resource_ids p.rw ≡ resource_ids q.rw → Reads p.rows p.rw x ≡ Reads q.rows q.rw x
+same_reads : (p q : PartCopy) (x : List ℕ) → map shape p.rows ≡ map shape q.rows → resource_ids p.rw ≡ resource_ids q.rw → Reads p.rows p.rw x ≡ Reads q.rows q.rw x
 same_reads p q x rows rw =
     let links = sym (shapes_link p.rows x) ∙ ap (list_any (λ (s : Shape). list_any (λ (l : Link). bytes_eq l.rref x) (links_of s.thing))) rows ∙ shapes_link q.rows x in
     ap (λ b. b && (not (mem x (ids p.rows)) && not (mem x (resource_ids p.rw)))) links
@@ -116,11 +116,11 @@ same_reads p q x rows rw =
     ∙ ap (λ is. is_linked q.rows x && (not (mem x (ids q.rows)) && not (mem x is))) rw
 
 -- that of a sound part
-sound_linked : (p : Copied) → is_sound p ≡ true → are_linked p.rows p.ro ≡ true
+sound_linked : (p : PartCopy) → is_sound p ≡ true → are_linked p.rows p.ro ≡ true
 sound_linked p sound = (and_parts _ (are_linked p.rows p.ro) sound).1
 
 -- the copies to read of a part that fits are those that its spawn may read
-pub reads_held : (t : Job) (r : SpawnRec) (p : Copied) (x : List ℕ) → IsValid t.rows → IsGood t.rows r → Fits t r p → IsValid (with_copies p.rows p.rw p.ro) → is_sound p ≡ true → mem x (resource_ids p.ro) ≡ mem x (claim.ids_of (claim.linked_ro (places t.rows) r.node r.rw))
+pub reads_held : (t : Job) (r : SpawnRec) (p : PartCopy) (x : List ℕ) → IsValid t.rows → IsGood t.rows r → Fits t r p → IsValid (with_copies p.rows p.rw p.ro) → is_sound p ≡ true → mem x (resource_ids p.ro) ≡ mem x (claim.ids_of (claim.linked_ro (places t.rows) r.node r.rw))
 reads_held t r p x valid good fits whole sound =
     let q = part_for t r in
     let rw : resource_ids p.rw ≡ resource_ids q.rw = sym (first_of_fixed p.rw) ∙ ap (map (λ f. f.0)) fits.rw ∙ first_of_fixed q.rw in

@@ -8,7 +8,7 @@ use Rattle.std.specs.Option.{option_and_then, option_map, option_map_or, option_
 use Rattle.ticket_items.proofs.Places.{same_found}
 use Rattle.ticket_items.specs.declared.refusal.Refusal.{Refusal}
 use Rattle.ticket_rows.specs.Place.{Place, place_at, places, row_in}
-use Rattle.ticket_tree.specs.Part.{Copied}
+use Rattle.ticket_tree.specs.Part.{PartCopy}
 use Rattle.ticket_tree.specs.PartView.{part_row}
 use Rattle.controller.specs.Reply.{answer_to}
 use Rattle.controller.specs.declared.body.Body.TheVariants.{Submit}
@@ -20,19 +20,19 @@ use Rattle.spawn.proofs.PartShows.{part_shows_claim}
 use Rattle.spawn.specs.Claim.{is_claimed}
 use Rattle.spawn.specs.Parts.{part_for}
 use Rattle.spawn.specs.Records.{is_out}
-use Rattle.spawn.specs.Table.{holder_at, holding, holds}
+use Rattle.spawn.specs.Table.{holder_at, holding_record, holds}
 use Rattle.spawn.specs.declared.records.spawn_rec.SpawnRec.{SpawnRec}
 use Rattle.spawn.specs.declared.tables.holder.Holder.TheVariants.{Master, Spawn}
 use Rattle.master_core.proofs.Recorded.{number_is}
 use Rattle.master_core.specs.Master as master
 use Rattle.worker_core.proofs.AtNumber.{found_holds}
-use Rattle.worker_core.specs.Messages.{again, again_reply, entering}
+use Rattle.worker_core.specs.Messages.{again_reply, entry_taking, repeat_taking}
 use Rattle.worker_core.specs.Worker as worker
 use Rattle.worker_core.specs.declared.entry.Entry.{Entry}
 use Rattle.world.proofs.Agreeing.{Agrees, StepsAgree}
-use Rattle.world.proofs.Back.{one_record}
+use Rattle.world.proofs.EndedEntries.{one_record}
 use Rattle.world.proofs.Cases.{split, split_some}
-use Rattle.world.proofs.Doors.{worker_refuses_nothing}
+use Rattle.world.proofs.MessagesTaken.{worker_refuses_nothing}
 use Rattle.world.proofs.EntryStored.{HasStored, row_stored, spawns_stored}
 use Rattle.world.proofs.Resends.{spawn_found}
 use Rattle.world.proofs.SameWorkers.{stored_same}
@@ -42,28 +42,28 @@ use Rattle.world.proofs.TakenSpawns.{phase_away, phase_of_entry, phase_out, take
 use Rattle.world.specs.Controllers.{Controllers, entry_at, is_named, worker_of}
 use Rattle.world.specs.Messages.{HasComeBack, IsBack, IsInOrder, entry_for}
 use Rattle.world.specs.Shop.{Open, is_away, is_taken}
-use Rattle.world.specs.ShopActs.{in_phase, taken}
+use Rattle.world.specs.ShopActs.{after_taking, in_phase}
 use Rattle.world.specs.ShopSteps as shop
 use Rattle.world.specs.Showing.{entry_of_spawn, phase_shown, row_at, seen_shown, shop_shown, spawn_shown, tag_of}
-use Rattle.world.specs.State.{IsKept, State}
-use Rattle.controller.specs.Step.{Step, Taking, answering}
+use Rattle.world.specs.State.{IsConsistent, State}
+use Rattle.controller.specs.Step.{Step, Taking, message_step}
 use Rattle.worker_core.specs.Messages.{take_step as taken_by_worker}
 use Rattle.world.specs.Stepping.{worker_moved}
 use Rattle.world_items.specs.declared.word.Word.TheVariants.{NoMessage}
 
 -- the message that brings a part to a worker
-abbrev part_sent : List ℕ → worker.Known → ℕ → Copied → Message
+abbrev part_sent : List ℕ → worker.State → ℕ → PartCopy → Message
 part_sent sender v sent p = record { sender = sender; receiver = v.name; at = sent; body = Submit p }
 
 -- what comes of it, by the entry that the worker has, and the worker's step, by why the part is refused
-abbrev coming : worker.Known → Copied → ℕ → Option Entry → Taking worker.Known
-coming v p at o = option_map_or (again p.spawn_id v) o (entering p at v)
+abbrev coming : worker.State → PartCopy → ℕ → Option Entry → Taking worker.State
+coming v p at o = option_map_or (repeat_taking p.spawn_id v) o (entry_taking p at v)
 
-abbrev step_by : worker.Known → Message → Copied → ℕ → Option Refusal → Option Entry → Step worker.Known Message
-step_by v m p at why o = answering v.name m at why v (coming v p at o)
+abbrev step_by : worker.State → Message → PartCopy → ℕ → Option Refusal → Option Entry → Step worker.State Message
+step_by v m p at why o = message_step v.name m at why v (coming v p at o)
 
 -- its answer goes back
-abbrev IsAnswered : worker.Known → Message → Copied → ℕ → Type 0
+abbrev IsAnswered : worker.State → Message → PartCopy → ℕ → Type 0
 IsAnswered v m p at = (told : Result QueueStatus ℕ) → option_map tag_of (answer_to v.name m at told) ≡ Some (shop.ToSubmit p.spawn_id)
 
 -- ---- what the spawn holds
@@ -76,14 +76,14 @@ spawn_here s (Some q) e = (q, refl, same_number q.id s e)
     same_number m n e = cc
 
 -- what a spawn holds stands in the ticket, and its record claims it and is out
-pub held_claimed : (m : master.Known) (s : ℕ) (r : SpawnRec) (x : List ℕ) → master.IsKept m → master.record_of m.records s ≡ Some r → master.holder m x ≡ Some (Spawn s)
+pub held_claimed : (m : master.State) (s : ℕ) (r : SpawnRec) (x : List ℕ) → master.IsConsistent m → master.record_of m.records s ≡ Some r → master.holder m x ≡ Some (Spawn s)
     → (p : Place) × (place_at (places m.ticket.rows) x ≡ Some p) × (is_claimed r.node r.rw p ≡ true) × (is_out r ≡ true)
 held_claimed m s r x ok found held = by (place_at (places m.ticket.rows) x) refl held
   where
     by : (o : Option Place) → place_at (places m.ticket.rows) x ≡ o → option_map (holder_at m.records) o ≡ Some (Spawn s) → (p : Place) × (place_at (places m.ticket.rows) x ≡ Some p) × (is_claimed r.node r.rw p ≡ true) × (is_out r ≡ true)
     by None there e = cc
     by (Some p) there e =
-        let is = spawn_here s (holding m.records p) e in
+        let is = spawn_here s (holding_record m.records p) e in
         let at = placed (holds p) m.records is.0 is.1 in
         let same : is.0 ≡ r = one_record m.records at.place s is.0 r ok.numbered at.there found (is.2 ∙ sym (number_is m.records s r found)) in
         let holds_it = held_is_claimed m.records is.0 p is.1 in
@@ -96,25 +96,25 @@ flipped true x y = refl
 flipped false x y = refl
 
 -- it is taken as one that came again, or was declined, just as its spawn is shown
-pub again_shown : (c : Controllers) (s : ℕ) (r : SpawnRec) (e : Entry) → r.id ≡ s → HasComeBack c r → entry_for c r ≡ Some e → again_reply s e ≡ shop.again (spawn_shown c r)
+pub again_shown : (c : Controllers) (s : ℕ) (r : SpawnRec) (e : Entry) → r.id ≡ s → HasComeBack c r → entry_for c r ≡ Some e → again_reply s e ≡ shop.repeat_reply (spawn_shown c r)
 again_shown c s r e number back entered =
     let known = λ (isn't : is_out r ≡ false). let there = and_found (IsBack r.phase) (entry_for c r) (back isn't) in subst (IsBack r.phase) (same_found there.0 e (entry_for c r) there.1 entered) there.2 in
     ap (λ n. again_reply n e) (sym number)
     ∙ sym (flipped (worker.is_declined e) (reply.Again r.id) (reply.Declined r.id))
     ∙ sym (ap (λ b. cond b (reply.Again r.id) (reply.Declined r.id)) (ap (λ o. is_taken (phase_shown r.phase o)) entered ∙ taken_of_entry r.phase e known))
 
-taken_again : (w : State) (v : worker.Known) (m : Message) (p : Copied) (at : ℕ) (r : SpawnRec) (e : Entry) → IsKept w → worker_of w.controllers.workers v.name ≡ Some v → r.id ≡ p.spawn_id → HasComeBack w.controllers r → entry_for w.controllers r ≡ Some e
+taken_again : (w : State) (v : worker.State) (m : Message) (p : PartCopy) (at : ℕ) (r : SpawnRec) (e : Entry) → IsConsistent w → worker_of w.controllers.workers v.name ≡ Some v → r.id ≡ p.spawn_id → HasComeBack w.controllers r → entry_for w.controllers r ≡ Some e
     → IsAnswered v m p at
-    → Agrees (worker_moved w.controllers v (step_by v m p at None (Some e))) (shop.submit_comes (shop_shown w.controllers) (spawn_shown w.controllers r))
+    → Agrees (worker_moved w.controllers v (step_by v m p at None (Some e))) (shop.on_submit (shop_shown w.controllers) (spawn_shown w.controllers r))
 taken_again w v m p at r e ok found number back entered answered =
     let c = w.controllers in
     let s = shop_shown c in
-    subst (λ b. Agrees (worker_moved c v (step_by v m p at None (Some e))) (cond b (shop.sends (reply.Taken r.id) (taken r.id s) (shop.ToSubmit r.id)) (shop.sends (shop.again (spawn_shown c r)) s (shop.ToSubmit r.id))))
+    subst (λ b. Agrees (worker_moved c v (step_by v m p at None (Some e))) (cond b (shop.sending_step (reply.Taken r.id) (after_taking r.id s) (shop.ToSubmit r.id)) (shop.sending_step (shop.repeat_reply (spawn_shown c r)) s (shop.ToSubmit r.id))))
     (sym (ap (λ o. is_away (phase_shown r.phase o)) entered ∙ (phase_of_entry r.phase e).away))
     (record {
       reply = ap Ok (again_shown c p.spawn_id r e number back entered);
       next = ap shop_shown (stored_same w v.name v ok found);
-      sent = answered (coming v p at (Some e)).told ∙ ap (λ n. Some (shop.ToSubmit n)) (sym number);
+      sent = answered (coming v p at (Some e)).response ∙ ap (λ n. Some (shop.ToSubmit n)) (sym number);
     })
 
 -- ---- a part of which there is none
@@ -145,29 +145,29 @@ out_still c r back missing =
     none_there x o a b = cc
 
 -- what a spawn holds is in the part that is made for it as the master sees it
-pub claim_as_seen : (m : master.Known) (s : ℕ) (r : SpawnRec) (x : List ℕ) → master.IsKept m → master.record_of m.records s ≡ Some r → is_out r ≡ true → master.holder m x ≡ Some (Spawn s)
+pub claim_as_seen : (m : master.State) (s : ℕ) (r : SpawnRec) (x : List ℕ) → master.IsConsistent m → master.record_of m.records s ≡ Some r → is_out r ≡ true → master.holder m x ≡ Some (Spawn s)
     → part_row (part_for m.ticket r) x ≡ row_in m.ticket.rows x
 claim_as_seen m s r x ok found out held =
     let place = placed (master.is_of s) m.records r found in
     let claimed = held_claimed m s r x ok found held in
     (part_shows_claim m.ticket r ok.valid (ok.apart.good place.place r place.there out) x claimed.0 claimed.1 claimed.2).0
 
-part_as_seen : (c : Controllers) (p : Copied) (r : SpawnRec) (x : List ℕ) → master.IsKept c.master → master.record_of c.master.records p.spawn_id ≡ Some r → is_out r ≡ true → p ≡ part_for c.master.ticket r → entry_for c r ≡ None → master.holder c.master x ≡ Some (Spawn p.spawn_id)
+part_as_seen : (c : Controllers) (p : PartCopy) (r : SpawnRec) (x : List ℕ) → master.IsConsistent c.master → master.record_of c.master.records p.spawn_id ≡ Some r → is_out r ≡ true → p ≡ part_for c.master.ticket r → entry_for c r ≡ None → master.holder c.master x ≡ Some (Spawn p.spawn_id)
     → part_row p x ≡ row_at c x (master.holder c.master x)
 part_as_seen c p r x ok found out made missing held =
     let none : entry_of_spawn c p.spawn_id ≡ None = ap (option_and_then (entry_for c)) found ∙ missing in
-    ap (λ (q : Copied). part_row q x) made
+    ap (λ (q : PartCopy). part_row q x) made
     ∙ claim_as_seen c.master p.spawn_id r x ok found out held
     ∙ sym (ap (row_at c x) held ∙ ap (λ o. option_map_or (λ q. part_row q x) (option_and_then (λ (e : Entry). e.part) o) (seen_shown c x)) none)
 
-newly_taken : (w : State) (v : worker.Known) (m : Message) (p : Copied) (at : ℕ) (r : SpawnRec) → IsKept w → worker_of w.controllers.workers v.name ≡ Some v → master.record_of w.controllers.master.records p.spawn_id ≡ Some r → r.worker ≡ v.name
+newly_taken : (w : State) (v : worker.State) (m : Message) (p : PartCopy) (at : ℕ) (r : SpawnRec) → IsConsistent w → worker_of w.controllers.workers v.name ≡ Some v → master.record_of w.controllers.master.records p.spawn_id ≡ Some r → r.worker ≡ v.name
     → (is_out r ≡ true → p ≡ part_for w.controllers.master.ticket r) → worker.entry_of v.entries p.spawn_id ≡ None → entry_for w.controllers r ≡ None → IsAnswered v m p at
-    → Agrees (worker_moved w.controllers v (step_by v m p at None None)) (shop.submit_comes (shop_shown w.controllers) (spawn_shown w.controllers r))
+    → Agrees (worker_moved w.controllers v (step_by v m p at None None)) (shop.on_submit (shop_shown w.controllers) (spawn_shown w.controllers r))
 newly_taken w v m p at r ok found recorded named made missing none answered =
     let c = w.controllers in
     let s = shop_shown c in
     let new = worker.new_entry p at in
-    let next : worker.Known = record v { entries = v.entries ++ new ∷ [] } in
+    let next : worker.State = record v { entries = v.entries ++ new ∷ [] } in
     let number = number_is c.master.records p.spawn_id r recorded in
     let out = out_still c r (found_holds (HasComeBack c) (master.is_of p.spawn_id) c.master.records r recorded ok.back) none in
     let stored : HasStored c v.name p.spawn_id next new r =
@@ -181,7 +181,7 @@ newly_taken w v m p at r ok found recorded named made missing none answered =
       named = named;
       numbered = ok.master.numbered;
     } in
-    subst (λ b. Agrees (worker_moved c v (step_by v m p at None None)) (cond b (shop.sends (reply.Taken r.id) (taken r.id s) (shop.ToSubmit r.id)) (shop.sends (shop.again (spawn_shown c r)) s (shop.ToSubmit r.id))))
+    subst (λ b. Agrees (worker_moved c v (step_by v m p at None None)) (cond b (shop.sending_step (reply.Taken r.id) (after_taking r.id s) (shop.ToSubmit r.id)) (shop.sending_step (shop.repeat_reply (spawn_shown c r)) s (shop.ToSubmit r.id))))
     (sym (phase_away r.phase (entry_for c r) none out))
     (record {
       reply = ap (λ n. Ok (reply.Taken n)) (sym number);
@@ -198,17 +198,17 @@ newly_taken w v m p at r ok found recorded named made missing none answered =
             spawns = spawns_stored c v.name p.spawn_id next new r Open stored (ap (λ phase. phase_shown phase (Some new)) (phase_out r.phase out))
                 ∙ ap (λ n. in_phase Open n (map (spawn_shown c) c.master.records)) (sym number);
           });
-      sent = answered (coming v p at None).told ∙ ap (λ n. Some (shop.ToSubmit n)) (sym number);
+      sent = answered (coming v p at None).response ∙ ap (λ n. Some (shop.ToSubmit n)) (sym number);
     })
 
 -- ---- the step
 
-same_part : (p q : Copied) → Submit p ≡ Submit q → p ≡ q
+same_part : (p q : PartCopy) → Submit p ≡ Submit q → p ≡ q
 same_part p q e = cc
 
-pub part_is_taken : (w : State) (v : worker.Known) (sender : List ℕ) (sent : ℕ) (p : Copied) (at : ℕ) → IsKept w → worker_of w.controllers.workers v.name ≡ Some v
+pub part_is_taken : (w : State) (v : worker.State) (sender : List ℕ) (sent : ℕ) (p : PartCopy) (at : ℕ) → IsConsistent w → worker_of w.controllers.workers v.name ≡ Some v
     → Contains w.messages (record { sender = sender; receiver = v.name; at = sent; body = Submit p })
-    → StepsAgree (Ok (worker_moved w.controllers v (taken_by_worker (record { sender = sender; receiver = v.name; at = sent; body = Submit p }) at v))) (shop.message_comes at (shop_shown w.controllers) (shop.Submit p.spawn_id))
+    → StepsAgree (Ok (worker_moved w.controllers v (taken_by_worker (record { sender = sender; receiver = v.name; at = sent; body = Submit p }) at v))) (shop.on_message at (shop_shown w.controllers) (shop.Submit p.spawn_id))
 part_is_taken w v sender sent p at ok found there =
     let c = w.controllers in
     let plain = shop_shown c in
@@ -217,13 +217,13 @@ part_is_taken w v sender sent p at ok found there =
     let r = h.spawn in
     let own = worker.entry_of v.entries p.spawn_id in
     let number = number_is c.master.records p.spawn_id r h.recorded in
-    let knows = found_holds (λ (u : worker.Known). u.master ≡ c.master.name) (is_named v.name) c.workers v found ok.known in
+    let knows = found_holds (λ (u : worker.State). u.master ≡ c.master.name) (is_named v.name) c.workers v found ok.known in
     let entered : entry_for c r ≡ own =
-    ap (λ n. entry_at c.workers n r.id) (sym h.to) ∙ ap (entry_at c.workers v.name) number ∙ ap (option_and_then (λ (u : worker.Known). worker.entry_of u.entries p.spawn_id)) found in
+    ap (λ n. entry_at c.workers n r.id) (sym h.to) ∙ ap (entry_at c.workers v.name) number ∙ ap (option_and_then (λ (u : worker.State). worker.entry_of u.entries p.spawn_id)) found in
     let made = λ (out : is_out r ≡ true). same_part p (part_for c.master.ticket r) (ap (λ (n : Message). n.body) (h.says out)) in
     subst (StepsAgree (Ok (worker_moved c v (taken_by_worker m at v))))
-    (sym (ap (λ o. option_map_or (λ a. Ok (shop.submit_comes plain a)) o (Err NoMessage)) (spawn_found c p.spawn_id ∙ ap (option_map (spawn_shown c)) h.recorded)))
-    (subst (λ why. Agrees (worker_moved c v (step_by v m p at why own)) (shop.submit_comes plain (spawn_shown c r))) (sym (worker_refuses_nothing c v m found refl knows refl h))
+    (sym (ap (λ o. option_map_or (λ a. Ok (shop.on_submit plain a)) o (Err NoMessage)) (spawn_found c p.spawn_id ∙ ap (option_map (spawn_shown c)) h.recorded)))
+    (subst (λ why. Agrees (worker_moved c v (step_by v m p at why own)) (shop.on_submit plain (spawn_shown c r))) (sym (worker_refuses_nothing c v m found refl knows refl h))
     (split_some own
-    (λ e has. subst (λ o. Agrees (worker_moved c v (step_by v m p at None o)) (shop.submit_comes plain (spawn_shown c r))) (sym has) (taken_again w v m p at r e ok found number (found_holds (HasComeBack c) (master.is_of p.spawn_id) c.master.records r h.recorded ok.back) (entered ∙ has) (λ told. refl)))
-    (λ missing. subst (λ o. Agrees (worker_moved c v (step_by v m p at None o)) (shop.submit_comes plain (spawn_shown c r))) (sym missing) (newly_taken w v m p at r ok found h.recorded (sym h.to) made missing (entered ∙ missing) (λ told. refl)))))
+    (λ e has. subst (λ o. Agrees (worker_moved c v (step_by v m p at None o)) (shop.on_submit plain (spawn_shown c r))) (sym has) (taken_again w v m p at r e ok found number (found_holds (HasComeBack c) (master.is_of p.spawn_id) c.master.records r h.recorded ok.back) (entered ∙ has) (λ told. refl)))
+    (λ missing. subst (λ o. Agrees (worker_moved c v (step_by v m p at None o)) (shop.on_submit plain (spawn_shown c r))) (sym missing) (newly_taken w v m p at r ok found h.recorded (sym h.to) made missing (entered ∙ missing) (λ told. refl)))))

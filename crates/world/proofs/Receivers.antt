@@ -17,7 +17,7 @@ use Rattle.worker_core.specs.Worker as worker
 use Rattle.world.proofs.SameWorkers.{worker_known}
 use Rattle.world.specs.Controllers.{is_named, worker_of}
 use Rattle.world.specs.Messages.{IsInOrder}
-use Rattle.world.specs.State.{IsKept, State}
+use Rattle.world.specs.State.{IsConsistent, State}
 
 -- ---- the master
 
@@ -30,7 +30,7 @@ master_receives w m h mine =
 -- ---- a worker
 
 -- the worker of a record is one of the master's
-worker_named : (w : State) (s : ℕ) (r : SpawnRec) → IsKept w → master.record_of w.controllers.master.records s ≡ Some r → mem r.worker w.controllers.master.workers ≡ true
+worker_named : (w : State) (s : ℕ) (r : SpawnRec) → IsConsistent w → master.record_of w.controllers.master.records s ≡ Some r → mem r.worker w.controllers.master.workers ≡ true
 worker_named w s r ok found = found_holds (λ (q : SpawnRec). mem q.worker w.controllers.master.workers ≡ true) (master.is_of s) w.controllers.master.records r found ok.master.sent
 
 some_there : {X : Type 0} (o : Option X) → is_some o ≡ true → (x : X) × (o ≡ Some x)
@@ -38,7 +38,7 @@ some_there None e = cc
 some_there (Some x) e = (x, refl)
 
 -- and not the master
-not_masters : (w : State) (name : List ℕ) → IsKept w → mem name w.controllers.master.workers ≡ true → bytes_eq name w.controllers.master.name ≡ false
+not_masters : (w : State) (name : List ℕ) → IsConsistent w → mem name w.controllers.master.workers ≡ true → bytes_eq name w.controllers.master.name ≡ false
 not_masters w name ok there =
     let m = w.controllers.master in
     let out : mem m.name m.workers ≡ false = not-true _ (and_parts _ _ ok.master.names).0 in
@@ -46,13 +46,13 @@ not_masters w name ok there =
 
 -- the worker that a message is for
 pub record IsReceived (w : State) (m : Message) : Type 0 where
-  pub by : worker.Known
+  pub by : worker.State
   pub found : worker_of w.controllers.workers m.receiver ≡ Some by
   pub named : by.name ≡ m.receiver
   pub knows : by.master ≡ w.controllers.master.name
   pub other : bytes_eq m.receiver w.controllers.master.name ≡ false
 
-pub worker_receives : (w : State) (m : Message) → IsKept w → IsInOrder w.controllers m → is_for_workers m.body ≡ true → IsReceived w m
+pub worker_receives : (w : State) (m : Message) → IsConsistent w → IsInOrder w.controllers m → is_for_workers m.body ≡ true → IsReceived w m
 worker_receives w m ok h theirs =
     let c = w.controllers in
     let to : m.receiver ≡ h.spawn.worker = h.to ∙ ap (λ b. cond b h.spawn.worker c.master.name) theirs in
@@ -63,6 +63,6 @@ worker_receives w m ok h theirs =
       by = v;
       found = there.1;
       named = (bytes_eq-Decides v.name m.receiver).0 (find-passes (is_named m.receiver) c.workers v there.1);
-      knows = found_holds (λ (u : worker.Known). u.master ≡ c.master.name) (is_named m.receiver) c.workers v there.1 ok.known;
+      knows = found_holds (λ (u : worker.State). u.master ≡ c.master.name) (is_named m.receiver) c.workers v there.1 ok.known;
       other = not_masters w m.receiver ok known;
     }

@@ -16,9 +16,9 @@ use Rattle.world.proofs.TakenSpawns.{out_shown}
 use Rattle.world.specs.Controllers.{Controllers}
 use Rattle.world.specs.Messages.{entry_for}
 use Rattle.world.specs.Shop.{has_number, is_out, spawn_of}
-use Rattle.world.specs.ShopSteps.{Abort, Submit, master_does, sends}
+use Rattle.world.specs.ShopSteps.{Abort, Submit, master_does, sending_step}
 use Rattle.world.specs.Showing.{shop_shown, spawn_shown}
-use Rattle.world.specs.State.{IsKept, State}
+use Rattle.world.specs.State.{IsConsistent, State}
 use Rattle.controller.specs.Step.{unless_refused}
 use Rattle.master_core.specs.Orders.{order_step as ordered_master}
 use Rattle.world.specs.Stepping.{master_moved}
@@ -32,7 +32,7 @@ spawn_found c s = found_made (has_number s) (spawn_shown c) c.master.records
 record_resent : (w : State) (s at : ℕ) (o : Option SpawnRec) (out : Bool) → record_of w.controllers.master.records s ≡ o → option_map_or records.is_out o false ≡ out
     → Agrees
     (master_moved w.controllers (unless_refused (unless out NotOut) w.controllers.master (record { reply = Ok (reply.Sent s); next = w.controllers.master; sent = option_map (submit_of w.controllers.master.name w.controllers.master.ticket) o })))
-    (unless_refused (unless out NotOut) (shop_shown w.controllers) (sends (reply.Sent s) (shop_shown w.controllers) (Submit s)))
+    (unless_refused (unless out NotOut) (shop_shown w.controllers) (sending_step (reply.Sent s) (shop_shown w.controllers) (Submit s)))
 record_resent w s at None true found is = cc
 record_resent w s at None false found is = record { reply = refl; next = refl; sent = refl }
 record_resent w s at (Some r) true found is = record { reply = refl; next = refl; sent = ap (λ n. Some (Submit n)) (number_is w.controllers.master.records s r found) }
@@ -45,7 +45,7 @@ out_so c (Some r) = out_shown r.phase (entry_for c r)
 record_asked : (w : State) (s at : ℕ) (o : Option SpawnRec) (out : Bool) → record_of w.controllers.master.records s ≡ o → option_map_or records.is_out o false ≡ out
     → Agrees
     (master_moved w.controllers (unless_refused (unless out NotOut) w.controllers.master (record { reply = Ok (reply.Asked s); next = w.controllers.master; sent = option_map (abort_of w.controllers.master.name) o })))
-    (unless_refused (unless out NotOut) (shop_shown w.controllers) (sends (reply.Asked s) (shop_shown w.controllers) (Abort s)))
+    (unless_refused (unless out NotOut) (shop_shown w.controllers) (sending_step (reply.Asked s) (shop_shown w.controllers) (Abort s)))
 record_asked w s at None true found is = cc
 record_asked w s at None false found is = record { reply = refl; next = refl; sent = refl }
 record_asked w s at (Some r) true found is = record { reply = refl; next = refl; sent = ap (λ n. Some (Abort n)) (number_is w.controllers.master.records s r found) }
@@ -54,16 +54,16 @@ record_asked w s at (Some r) false found is = record { reply = refl; next = refl
 same_out : (c : Controllers) (s : ℕ) → option_map_or (λ a. is_out a.phase) (spawn_of s (shop_shown c)) false ≡ is_spawn_out c.master.records s
 same_out c s = ap (λ o. option_map_or (λ a. is_out a.phase) o false) (spawn_found c s) ∙ out_so c (record_of c.master.records s)
 
-pub master_asks : (w : State) (s at : ℕ) → IsKept w → Agrees (master_moved w.controllers (ordered_master (order.Withdraw s) at w.controllers.master)) (master_does (order.Withdraw s) at (shop_shown w.controllers))
+pub master_asks : (w : State) (s at : ℕ) → IsConsistent w → Agrees (master_moved w.controllers (ordered_master (order.Withdraw s) at w.controllers.master)) (master_does (order.Withdraw s) at (shop_shown w.controllers))
 master_asks w s at ok =
     let c = w.controllers in
     let p = shop_shown c in
-    subst (λ b. Agrees (master_moved c (ordered_master (order.Withdraw s) at c.master)) (unless_refused (unless b NotOut) p (sends (reply.Asked s) p (Abort s)))) (sym (same_out c s))
+    subst (λ b. Agrees (master_moved c (ordered_master (order.Withdraw s) at c.master)) (unless_refused (unless b NotOut) p (sending_step (reply.Asked s) p (Abort s)))) (sym (same_out c s))
     (record_asked w s at (record_of c.master.records s) (is_spawn_out c.master.records s) refl refl)
 
-pub master_resends : (w : State) (s at : ℕ) → IsKept w → Agrees (master_moved w.controllers (ordered_master (order.Resend s) at w.controllers.master)) (master_does (order.Resend s) at (shop_shown w.controllers))
+pub master_resends : (w : State) (s at : ℕ) → IsConsistent w → Agrees (master_moved w.controllers (ordered_master (order.Resend s) at w.controllers.master)) (master_does (order.Resend s) at (shop_shown w.controllers))
 master_resends w s at ok =
     let c = w.controllers in
     let p = shop_shown c in
-    subst (λ b. Agrees (master_moved c (ordered_master (order.Resend s) at c.master)) (unless_refused (unless b NotOut) p (sends (reply.Sent s) p (Submit s)))) (sym (same_out c s))
+    subst (λ b. Agrees (master_moved c (ordered_master (order.Resend s) at c.master)) (unless_refused (unless b NotOut) p (sending_step (reply.Sent s) p (Submit s)))) (sym (same_out c s))
     (record_resent w s at (record_of c.master.records s) (is_spawn_out c.master.records s) refl refl)

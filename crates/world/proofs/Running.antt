@@ -2,8 +2,8 @@
 use Rattle.std.proofs.Common.{◌≡◌, ◌∙◌, suc, List, [], ◌∷◌, map, Option, Some, None, Ok, Err, refl, sym, ap}
 use Rattle.std.proofs.lemmas.List.{length-map, map-append}
 use Rattle.std.specs.Option.{option_map}
-use Rattle.world.specs.Running.{Agrees, IsShownBy, Machine, RunsAgree, StepsAgree, after, after_all, answer_to, answers_to, settled, settled_word}
-use Rattle.world.specs.Settling.{answer_without_step, number_of, settled_answer, settled_messages, settled_state, with_sent}
+use Rattle.world.specs.Running.{Agrees, IsShownBy, Machine, RunsAgree, StepsAgree, after, after_all, answer_to, answers_to, next_answer, next_state}
+use Rattle.world.specs.Settling.{answer_left, answer_without_step, messages_left, number_of, state_left, with_sent}
 use Rattle.controller.specs.Step.{Step}
 use Rattle.world_items.specs.Word.{word_of}
 use Rattle.world.specs.Step.{StepOrWord}
@@ -22,18 +22,18 @@ sent_shown tag_of messages None = refl
 sent_shown tag_of messages (Some m) = map-append tag_of messages (m ∷ [])
 
 module _ {S M T N : Type 0} (state_of : S → T) (tag_of : M → N) (moved : Step S M) (plain : Step T N) (h : Agrees state_of tag_of moved plain) where
-  same_answer : (stop : Stop) (messages : List M) → settled_answer stop messages (word_of moved.reply) moved.sent ≡ settled_answer stop (map tag_of messages) (word_of plain.reply) plain.sent
+  same_answer : (stop : Stop) (messages : List M) → answer_left stop messages (word_of moved.reply) moved.sent ≡ answer_left stop (map tag_of messages) (word_of plain.reply) plain.sent
   same_answer Run messages =
       ap (λ n. record { word = word_of moved.reply; number = n }) (number_shown tag_of messages moved.sent) ∙ (λ i. record { word = word_of (h.reply i); number = number_of (map tag_of messages) (h.sent i) })
   same_answer BeforeSave messages = refl
   same_answer BeforeSend messages = ap (λ r. answer_without_step (word_of r)) h.reply
 
-  same_state : (stop : Stop) (s : S) → state_of (settled_state stop s moved.next) ≡ settled_state stop (state_of s) plain.next
+  same_state : (stop : Stop) (s : S) → state_of (state_left stop s moved.next) ≡ state_left stop (state_of s) plain.next
   same_state Run s = h.next
   same_state BeforeSave s = refl
   same_state BeforeSend s = h.next
 
-  same_messages : (stop : Stop) (messages : List M) → map tag_of (settled_messages stop messages moved.sent) ≡ settled_messages stop (map tag_of messages) plain.sent
+  same_messages : (stop : Stop) (messages : List M) → map tag_of (messages_left stop messages moved.sent) ≡ messages_left stop (map tag_of messages) plain.sent
   same_messages Run messages = sent_shown tag_of messages moved.sent ∙ ap (with_sent (map tag_of messages)) h.sent
   same_messages BeforeSave messages = refl
   same_messages BeforeSend messages = refl
@@ -43,12 +43,12 @@ module _ {S M T N : Type 0} (state_of : S → T) (tag_of : M → N) (moved : Ste
 module _ {W S M V T N : Type 0} (a : Machine W S M) (b : Machine V T N) (IsKept : W → Type 0) (state_of : S → T) (tag_of : M → N) (shows : W → V) (is : IsShownBy a b IsKept state_of tag_of shows) where
   -- what is answered at a stop, and what is shown then
   settled_same : (stop : Stop) (w : W) (step : StepOrWord S M) (plain : StepOrWord T N) → StepsAgree state_of tag_of step plain
-      → (settled_word a stop w step ≡ settled_word b stop (shows w) plain) × (shows (settled a stop w step) ≡ settled b stop (shows w) plain)
+      → (next_answer a stop w step ≡ next_answer b stop (shows w) plain) × (shows (next_state a stop w step) ≡ next_state b stop (shows w) plain)
   settled_same stop w (Ok moved) (Ok plain) h = (
-    same_answer state_of tag_of moved plain h stop (a.sent w) ∙ ap (λ messages. settled_answer stop messages (word_of plain.reply) plain.sent) (sym (is.sent w)),
-    is.made (settled_state stop (a.inner w) moved.next) (settled_messages stop (a.sent w) moved.sent)
+    same_answer state_of tag_of moved plain h stop (a.sent w) ∙ ap (λ messages. answer_left stop messages (word_of plain.reply) plain.sent) (sym (is.sent w)),
+    is.made (state_left stop (a.inner w) moved.next) (messages_left stop (a.sent w) moved.sent)
         ∙ (λ i. b.made (same_state state_of tag_of moved plain h stop (a.inner w) i) (same_messages state_of tag_of moved plain h stop (a.sent w) i))
-        ∙ (λ i. b.made (settled_state stop (sym (is.inner w) i) plain.next) (settled_messages stop (sym (is.sent w) i) plain.sent)),
+        ∙ (λ i. b.made (state_left stop (sym (is.inner w) i) plain.next) (messages_left stop (sym (is.sent w) i) plain.sent)),
   )
   settled_same stop w (Ok moved) (Err word) h = absurd h
   settled_same stop w (Err word) (Ok plain) h = absurd h

@@ -23,8 +23,8 @@ same_there f xs k x new at same = map-set f xs k new ∙ ap (set (map f xs) k) (
 
 -- ---- by name
 
-pub place_seen : {S : Type 0} (kept : S → worker.Known) (name : List ℕ) (seats : List S) → position (λ s. is_named name (kept s)) seats ≡ position (is_named name) (map kept seats)
+pub place_seen : {S : Type 0} (kept : S → worker.State) (name : List ℕ) (seats : List S) → position (λ s. is_named name (kept s)) seats ≡ position (is_named name) (map kept seats)
 place_seen kept name seats = sym (position-map (is_named name) (λ s. is_named name (kept s)) kept seats (λ s. refl))
 
-pub found_seen : {S : Type 0} (kept : S → worker.Known) (name : List ℕ) (seats : List S) → option_map kept (find (λ s. is_named name (kept s)) seats) ≡ worker_of (map kept seats) name
+pub found_seen : {S : Type 0} (kept : S → worker.State) (name : List ℕ) (seats : List S) → option_map kept (find (λ s. is_named name (kept s)) seats) ≡ worker_of (map kept seats) name
 found_seen kept name seats = sym (find-mapped (is_named name) (λ s. is_named name (kept s)) kept seats (λ s. refl))

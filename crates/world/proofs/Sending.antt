@@ -11,7 +11,7 @@ use Rattle.controller.specs.declared.body.Body.{Body}
 use Rattle.controller.specs.declared.body.Body.TheVariants.{Submit, Return, Abort, Answer}
 use Rattle.controller.specs.declared.message.Message.{Message}
 use Rattle.controller.specs.declared.queue_status.QueueStatus.{QueueStatus}
-use Rattle.ticket_tree.specs.Part.{Copied}
+use Rattle.ticket_tree.specs.Part.{PartCopy}
 use Rattle.spawn.specs.Records.{is_out}
 use Rattle.spawn.specs.declared.records.spawn_rec.SpawnRec.{SpawnRec}
 use Rattle.master_core.specs.Master.{record_of}
@@ -34,7 +34,7 @@ same_return : (o : Option Message) (n m : Message) → is_some o ≡ true → If
 same_return None n m has hn hm = absurd (true≢false (sym has))
 same_return (Some k) n m has hn hm = hn ∙ sym hm
 
-has_return : (f : Copied → Message) (o : Option Copied) → is_some o ≡ true → is_some (option_map f o) ≡ true
+has_return : (f : PartCopy → Message) (o : Option PartCopy) → is_some o ≡ true → is_some (option_map f o) ≡ true
 has_return f None has = has
 has_return f (Some p) has = refl
 

@@ -1,9 +1,9 @@
 -- Shops are the same where they are so field by field, and point by point in what is said by id.
 use Rattle.std.proofs.Common.{◌≡◌, ℕ, List}
-use Rattle.world.specs.Shop.{Shop}
+use Rattle.world.specs.Shop.{PlainState}
 
 -- two shops have the same in each field
-pub record AreAlike (p q : Shop) : Type 0 where
+pub record AreAlike (p q : PlainState) : Type 0 where
   pub master : p.master ≡ q.master
   pub workers : p.workers ≡ q.workers
   pub job : p.job ≡ q.job
@@ -13,7 +13,7 @@ pub record AreAlike (p q : Shop) : Type 0 where
   pub holder : (x : List ℕ) → p.holder x ≡ q.holder x
   pub spawns : p.spawns ≡ q.spawns
 
-pub same_shop : (p q : Shop) → AreAlike p q → p ≡ q
+pub same_shop : (p q : PlainState) → AreAlike p q → p ≡ q
 same_shop p q a =
     λ j. record {
       master = a.master j;

@@ -6,35 +6,35 @@ use Rattle.std.specs.Str.{bytes_eq}
 use Rattle.ticket_items.specs.SpawnId.{is_spawn_number}
 use Rattle.ticket_rows.specs.Place.{Place, nodes_in, up}
 use Rattle.world.proofs.Cases.{split_some}
-use Rattle.world.proofs.GoingOn.{as_often, goes_on_twice, one_if, stays_so}
-use Rattle.world.specs.MergeAudits.{GoOn, above_of, word_tells}
-use Rattle.world.specs.Shop.{Phase, Rows, Shop, SpawnState, has_number, spawn_of}
+use Rattle.world.proofs.MergeAudits.{as_often, goes_on_twice, one_if, stays_so}
+use Rattle.world.specs.MergeAudits.{AuditsGrow, above_of, word_tells}
+use Rattle.world.specs.Shop.{Phase, PlainState, Rows, SpawnState, has_number, spawn_of}
 use Rattle.world.specs.ShopActs.{in_phase}
 use Rattle.world_items.specs.declared.word.Word.{Word}
 
 -- whether a node stands above the one that was spawned
-abbrev pub is_above : ℕ → Shop → List ℕ → Bool
+abbrev pub is_above : ℕ → PlainState → List ℕ → Bool
 is_above s p x = option_map_or (λ u. bytes_eq u x) (above_of s p) false
 
 -- so often as it is told of a spawn, at the node above it alone
-abbrev pub told_there : (ℕ → ℕ) → Shop → ℕ → List ℕ → ℕ
+abbrev pub told_there : (ℕ → ℕ) → PlainState → ℕ → List ℕ → ℕ
 told_there told p s x = cond (is_above s p x) (told s) 0
 
 -- the spawns have numbers of spawns
-abbrev pub HaveNumbers : Shop → Type 0
+abbrev pub HaveNumbers : PlainState → Type 0
 HaveNumbers p = (s : ℕ) → is_some (spawn_of s p) ≡ true → is_spawn_number s ≡ true
 
 -- past the rows in the beginning the audits tell so often of each spawn
-pub record IsTold (first : Rows) (told : ℕ → ℕ) (p : Shop) : Type 0 where
-  pub seen : (s : ℕ) (x : List ℕ) → GoOn s (told_there told p s x) (first x) (p.seen x)
-  pub now : (s : ℕ) (x : List ℕ) → GoOn s (told_there told p s x) (first x) (p.now x)
+pub record IsTold (first : Rows) (told : ℕ → ℕ) (p : PlainState) : Type 0 where
+  pub seen : (s : ℕ) (x : List ℕ) → AuditsGrow s (told_there told p s x) (first x) (p.seen x)
+  pub now : (s : ℕ) (x : List ℕ) → AuditsGrow s (told_there told p s x) (first x) (p.now x)
   pub none : (s : ℕ) → above_of s p ≡ None → told s ≡ 0
   pub numbers : HaveNumbers p
 
 -- from a shop to the next they tell so often more
-pub record TellsMore (more : ℕ → ℕ) (p q : Shop) : Type 0 where
-  pub seen : (s : ℕ) (x : List ℕ) → GoOn s (told_there more p s x) (p.seen x) (q.seen x) ⊎ GoOn s (told_there more p s x) (p.now x) (q.seen x)
-  pub now : (s : ℕ) (x : List ℕ) → GoOn s (told_there more p s x) (p.now x) (q.now x)
+pub record TellsMore (more : ℕ → ℕ) (p q : PlainState) : Type 0 where
+  pub seen : (s : ℕ) (x : List ℕ) → AuditsGrow s (told_there more p s x) (p.seen x) (q.seen x) ⊎ AuditsGrow s (told_there more p s x) (p.now x) (q.seen x)
+  pub now : (s : ℕ) (x : List ℕ) → AuditsGrow s (told_there more p s x) (p.now x) (q.now x)
   pub above : (s : ℕ) (u : List ℕ) → above_of s p ≡ Some u → above_of s q ≡ Some u
   pub none : (s : ℕ) → above_of s p ≡ None → more s ≡ 0
   pub numbers : (s : ℕ) → is_some (spawn_of s q) ≡ true → (is_some (spawn_of s p) ≡ true) ⊎ (is_spawn_number s ≡ true)
@@ -49,7 +49,7 @@ summed : (b : Bool) (m n : ℕ) → cond b m 0 + cond b n 0 ≡ cond b (m + n) 0
 summed true m n = refl
 summed false m n = refl
 
-told_more : (told more : ℕ → ℕ) (p q : Shop) (s : ℕ) (x : List ℕ) → ((u : List ℕ) → above_of s p ≡ Some u → above_of s q ≡ Some u) → (above_of s p ≡ None → (told s ≡ 0) × (more s ≡ 0)) → told_there told p s x + told_there more p s x ≡ told_there (λ t. told t + more t) q s x
+told_more : (told more : ℕ → ℕ) (p q : PlainState) (s : ℕ) (x : List ℕ) → ((u : List ℕ) → above_of s p ≡ Some u → above_of s q ≡ Some u) → (above_of s p ≡ None → (told s ≡ 0) × (more s ≡ 0)) → told_there told p s x + told_there more p s x ≡ told_there (λ t. told t + more t) q s x
 told_more told more p q s x same none =
     split_some (above_of s p)
     (λ u there.
@@ -64,15 +64,15 @@ told_more told more p q s x same none =
     let after : told_there (λ t. told t + more t) q s x ≡ 0 = either_none (is_above s q x) (told s + more s) sum in
     omega (arith, before, then, after))
 
-numbered_so : (p q : Shop) (s : ℕ) → HaveNumbers p → (is_some (spawn_of s p) ≡ true) ⊎ (is_spawn_number s ≡ true) → is_spawn_number s ≡ true
+numbered_so : (p q : PlainState) (s : ℕ) → HaveNumbers p → (is_some (spawn_of s p) ≡ true) ⊎ (is_spawn_number s ≡ true) → is_spawn_number s ≡ true
 numbered_so p q s have (inl before) = have s before
 numbered_so p q s have (inr new) = new
 
-seen_more : (first : Rows) (told more : ℕ → ℕ) (p q : Shop) (s : ℕ) (x : List ℕ) → IsTold first told p → GoOn s (told_there more p s x) (p.seen x) (q.seen x) ⊎ GoOn s (told_there more p s x) (p.now x) (q.seen x) → GoOn s (told_there told p s x + told_there more p s x) (first x) (q.seen x)
+seen_more : (first : Rows) (told more : ℕ → ℕ) (p q : PlainState) (s : ℕ) (x : List ℕ) → IsTold first told p → AuditsGrow s (told_there more p s x) (p.seen x) (q.seen x) ⊎ AuditsGrow s (told_there more p s x) (p.now x) (q.seen x) → AuditsGrow s (told_there told p s x + told_there more p s x) (first x) (q.seen x)
 seen_more first told more p q s x is (inl on) = goes_on_twice s _ _ (first x) (p.seen x) (q.seen x) (is.seen s x) on
 seen_more first told more p q s x is (inr on) = goes_on_twice s _ _ (first x) (p.now x) (q.seen x) (is.now s x) on
 
-pub then_told : (first : Rows) (told more : ℕ → ℕ) (p q : Shop) → IsTold first told p → TellsMore more p q → IsTold first (λ s. told s + more s) q
+pub then_told : (first : Rows) (told more : ℕ → ℕ) (p q : PlainState) → IsTold first told p → TellsMore more p q → IsTold first (λ s. told s + more s) q
 then_told first told more p q is step =
     let counts : (s : ℕ) (x : List ℕ) → told_there told p s x + told_there more p s x ≡ told_there (λ t. told t + more t) q s x = λ s x. told_more told more p q s x (step.above s) (λ missing. (is.none s missing, step.none s missing)) in
     record {
@@ -99,17 +99,17 @@ times word s = one_if (word_tells s word)
 
 -- rows that go on with no merge told
 abbrev pub IsQuiet : Rows → Rows → Type 0
-IsQuiet old new = (s : ℕ) (x : List ℕ) → GoOn s 0 (old x) (new x)
+IsQuiet old new = (s : ℕ) (x : List ℕ) → AuditsGrow s 0 (old x) (new x)
 
 -- the spawns stay where they are, and each new one has a number of a spawn
-pub record SpawnsStay (p q : Shop) : Type 0 where
+pub record SpawnsStay (p q : PlainState) : Type 0 where
   pub above : (s : ℕ) (u : List ℕ) → above_of s p ≡ Some u → above_of s q ≡ Some u
   pub numbers : (s : ℕ) → is_some (spawn_of s q) ≡ true → (is_some (spawn_of s p) ≡ true) ⊎ (is_spawn_number s ≡ true)
 
-none_told : (word : Word) (p : Shop) (s : ℕ) (x : List ℕ) → IsSilent word → told_there (times word) p s x ≡ 0
+none_told : (word : Word) (p : PlainState) (s : ℕ) (x : List ℕ) → IsSilent word → told_there (times word) p s x ≡ 0
 none_told word p s x silent = either_none (is_above s p x) (times word s) (ap one_if (silent s))
 
-pub tells_none : (word : Word) (p q : Shop) → IsSilent word → IsQuiet p.seen q.seen → IsQuiet p.now q.now → SpawnsStay p q → TellsMore (times word) p q
+pub tells_none : (word : Word) (p q : PlainState) → IsSilent word → IsQuiet p.seen q.seen → IsQuiet p.now q.now → SpawnsStay p q → TellsMore (times word) p q
 tells_none word p q silent seen now stay =
     record {
       seen = λ s x. inl (as_often s 0 _ (p.seen x) (q.seen x) (sym (none_told word p s x silent)) (seen s x));
@@ -122,11 +122,11 @@ tells_none word p q silent seen now stay =
 pub same_rows : (rows : Rows) → IsQuiet rows rows
 same_rows rows s x = stays_so s (rows x) (rows x) refl
 
-pub same_spawns : (p : Shop) → SpawnsStay p p
+pub same_spawns : (p : PlainState) → SpawnsStay p p
 same_spawns p = record { above = λ s u there. there; numbers = λ s there. inl there }
 
 -- nothing is done
-pub tells_nothing : (word : Word) (p : Shop) → IsSilent word → TellsMore (times word) p p
+pub tells_nothing : (word : Word) (p : PlainState) → IsSilent word → TellsMore (times word) p p
 tells_nothing word p silent = tells_none word p p silent (same_rows p.seen) (same_rows p.now) (same_spawns p)
 
 -- ---- phases
@@ -155,7 +155,7 @@ stand_by_node None = refl
 stand_by_node (Some a) = refl
 
 -- so the spawns stay
-pub phase_stays : (p q : Shop) (phase : Phase) (t : ℕ) → q.tree ≡ p.tree → q.spawns ≡ in_phase phase t p.spawns → SpawnsStay p q
+pub phase_stays : (p q : PlainState) (phase : Phase) (t : ℕ) → q.tree ≡ p.tree → q.spawns ≡ in_phase phase t p.spawns → SpawnsStay p q
 phase_stays p q phase t tree spawns =
     let same : (s : ℕ) → node_in s q.spawns ≡ node_in s p.spawns = λ s. ap (node_in s) spawns ∙ phased phase t s p.spawns in
     record {

@@ -8,7 +8,7 @@ use Rattle.ticket_rows.specs.Place.{place_at, places, row_in}
 use Rattle.ticket_rows.specs.Ticket.{has_node}
 use Rattle.ticket_tree.proofs.PlainOneRow.{append_of_places, append_of_rows}
 use Rattle.ticket_tree.specs.PartView.{part_row}
-use Rattle.ticket_tree.specs.PlainEdit.{touch}
+use Rattle.ticket_tree.specs.PlainEdit.{with_row_changed}
 use Rattle.controller.specs.Reply.{answer_to}
 use Rattle.controller.specs.declared.command.Command.TheVariants as command
 use Rattle.controller.specs.declared.message.Message.{Message}
@@ -24,11 +24,11 @@ use Rattle.spawn.specs.declared.records.phase.Phase.TheVariants as recorded
 use Rattle.spawn.specs.declared.records.spawn_rec.SpawnRec.{SpawnRec}
 use Rattle.spawn.specs.declared.tables.holder.Holder.{Holder}
 use Rattle.spawn.specs.declared.tables.holder.Holder.TheVariants as held_by
-use Rattle.merge.specs.Withdrawal.{withdrawn}
+use Rattle.merge.specs.Withdrawal.{job_after_withdrawal}
 use Rattle.master_core.proofs.Recorded.{found_phase, number_is, phase_at_place, phase_if}
 use Rattle.master_core.specs.Master as master
 use Rattle.master_core.specs.Messages as master_messages
-use Rattle.master_core.specs.Messages.{freeing, noted, take_step as taken_by_master, while_out}
+use Rattle.master_core.specs.Messages.{note_taking, take_step as taken_by_master, while_out, withdrawal_taking}
 use Rattle.worker_core.specs.Worker as worker
 use Rattle.worker_core.specs.declared.entry.Entry.{Entry}
 use Rattle.worker_core.specs.declared.stage.Stage.{Stage}
@@ -36,11 +36,11 @@ use Rattle.worker_core.specs.declared.stage.Stage.TheVariants as stages
 use Rattle.world.proofs.Agreeing.{Agrees, StepsAgree}
 use Rattle.world.proofs.AnswersCome.{answer}
 use Rattle.world.proofs.Cases.{split, when_false, when_true}
-use Rattle.world.proofs.Doors.{entry_kept, master_refuses_nothing}
+use Rattle.world.proofs.MessagesTaken.{entry_kept, master_refuses_nothing}
 use Rattle.world.proofs.HeldBySpawn.{held_spawn}
 use Rattle.world.proofs.MasterSpawns.{told_as, told_stays, told_there, with_told}
 use Rattle.world.proofs.MasterSteps.{with_master}
-use Rattle.world.proofs.OutThere.{IsOutThere, above_stands, claimed_place, holds_claim, holds_it, out_there, parent_free, parent_is}
+use Rattle.world.proofs.SpawnsOut.{IsOutThere, above_stands, claimed_place, holds_claim, holds_it, out_there, parent_free, parent_is}
 use Rattle.world.proofs.Resends.{spawn_found}
 use Rattle.world.proofs.ShopPaths.{same_shop}
 use Rattle.world.proofs.Stored.{and_found}
@@ -51,8 +51,8 @@ use Rattle.world.specs.Shop as plain
 use Rattle.world.specs.ShopActs as acts
 use Rattle.world.specs.ShopSteps as shop
 use Rattle.world.specs.Showing.{entry_of_spawn, now_shown, part_of_spawn, phase_shown, row_at, seen_shown, shop_shown, spawn_shown, tag_of}
-use Rattle.world.specs.State.{IsKept, State}
-use Rattle.controller.specs.Step.{Step, answering}
+use Rattle.world.specs.State.{IsConsistent, State}
+use Rattle.controller.specs.Step.{Step, message_step}
 use Rattle.world.specs.Stepping.{master_moved}
 use Rattle.world_items.specs.declared.word.Word.TheVariants.{NoMessage}
 
@@ -67,7 +67,7 @@ record IsFreed (c : Controllers) (r : SpawnRec) : Type 0 where
 
 -- the controllers once it is taken back
 abbrev freed_in : Controllers → SpawnRec → ℕ → Controllers
-freed_in c r at = with_master c (master_messages.freed at c.master r)
+freed_in c r at = with_master c (master_messages.state_after_withdrawal at c.master r)
 
 -- the audit that tells of it
 abbrev told_of : Controllers → SpawnRec → ℕ → Audit
@@ -101,26 +101,26 @@ spawns_freed c r at (q ∷ records) =
 
 -- ---- rows that are seen
 
-seen_freed : (c : Controllers) (r : SpawnRec) (at : ℕ) (x : List ℕ) → IsFreed c r → seen_shown (freed_in c r at) x ≡ acts.told_above (places c.master.ticket.rows) r.node (told_of c r at) (seen_shown c) x
+seen_freed : (c : Controllers) (r : SpawnRec) (at : ℕ) (x : List ℕ) → IsFreed c r → seen_shown (freed_in c r at) x ≡ acts.with_parent_audit (places c.master.ticket.rows) r.node (told_of c r at) (seen_shown c) x
 seen_freed c r at x h =
     let rows = c.master.ticket.rows in
     let told = told_of c r at in
     let above = parent_is c r h.there in
     append_of_rows (parent_of rows r.node) told rows h.there.kept.valid (ap (has_node rows) above ∙ above_stands c r h.there) x
-    ∙ ap (λ u. touch u (with_told told) (row_in rows) x) above
+    ∙ ap (λ u. with_row_changed u (with_told told) (row_in rows) x) above
     ∙ sym (told_there (places rows) r.node h.there.above told (row_in rows) x h.there.is_above)
 
-tree_stays : (c : Controllers) (r : SpawnRec) (at : ℕ) → places (withdrawn c.master.ticket r at).rows ≡ places c.master.ticket.rows
+tree_stays : (c : Controllers) (r : SpawnRec) (at : ℕ) → places (job_after_withdrawal c.master.ticket r at).rows ≡ places c.master.ticket.rows
 tree_stays c r at = append_of_places _ _ c.master.ticket.rows
 
 -- ---- holders
 
 -- the master holds what the spawn held, and all else has the holder that it had
-holder_freed : (c : Controllers) (r : SpawnRec) (at : ℕ) (x : List ℕ) → IsFreed c r → master.holder (freed_in c r at).master x ≡ acts.given_back r.id (master.holder c.master) x
+holder_freed : (c : Controllers) (r : SpawnRec) (at : ℕ) (x : List ℕ) → IsFreed c r → master.holder (freed_in c r at).master x ≡ acts.holders_after_return r.id (master.holder c.master) x
 holder_freed c r at x h =
     let m = c.master in
     let t = m.ticket in
-    let later = (withdrawn t r at).rows in
+    let later = (job_after_withdrawal t r at).rows in
     let ended = master.withdrawn_record r in
     let place = placed (master.is_of r.id) m.records r h.there.recorded in
     let is = holds_claim c r x h.there in
@@ -145,7 +145,7 @@ now_held c r x h held =
 
 -- what it doesn't hold is now as it was, but for the audit
 now_elsewhere : (c : Controllers) (r : SpawnRec) (at : ℕ) (x : List ℕ) (o : Option Holder) → IsFreed c r → master.holder c.master x ≡ o
-    → row_at (freed_in c r at) x o ≡ acts.told_above (places c.master.ticket.rows) r.node (told_of c r at) (now_shown c) x
+    → row_at (freed_in c r at) x o ≡ acts.with_parent_audit (places c.master.ticket.rows) r.node (told_of c r at) (now_shown c) x
 now_elsewhere c r at x None h is =
     seen_freed c r at x h ∙ told_as (places c.master.ticket.rows) r.node h.there.above (told_of c r at) (seen_shown c) (now_shown c) x h.there.is_above (sym (ap (row_at c x) is))
 now_elsewhere c r at x (Some held_by.Master) h is =
@@ -158,7 +158,7 @@ now_elsewhere c r at x (Some (held_by.Spawn t)) h is =
     ∙ ap (option_map_or (λ q. part_row q x) (part_of_spawn c t)) (seen_freed c r at x h ∙ told_stays tree r.node h.there.above told (seen_shown c) x h.there.is_above other)
     ∙ sym (told_stays tree r.node h.there.above told (now_shown c) x h.there.is_above other ∙ ap (row_at c x) is)
 
-now_freed : (c : Controllers) (r : SpawnRec) (at : ℕ) (x : List ℕ) → IsFreed c r → now_shown (freed_in c r at) x ≡ acts.told_above (places c.master.ticket.rows) r.node (told_of c r at) (now_shown c) x
+now_freed : (c : Controllers) (r : SpawnRec) (at : ℕ) (x : List ℕ) → IsFreed c r → now_shown (freed_in c r at) x ≡ acts.with_parent_audit (places c.master.ticket.rows) r.node (told_of c r at) (now_shown c) x
 now_freed c r at x h =
     let d = freed_in c r at in
     let o = master.holder c.master x in
@@ -172,7 +172,7 @@ now_freed c r at x h =
 -- ---- what the answer tells
 
 -- it tells that the spawn is declined just if its entry was
-stage_told : (stage : Stage) → worker.is_open_stage stage ≡ false → master_messages.is_declined command.Abort (worker.told_of_stage stage) ≡ worker.is_declined_stage stage
+stage_told : (stage : Stage) → worker.is_open_stage stage ≡ false → master_messages.is_declined command.Abort (worker.response_of_stage stage) ≡ worker.is_declined_stage stage
 stage_told stages.Open shut = absurd (true≢false shut)
 stage_told (stages.Done how) shut = refl
 stage_told (stages.Closed how) shut = refl
@@ -181,15 +181,15 @@ stage_told stages.Declined shut = refl
 -- ---- the step
 
 -- the master's step on an answer that isn't refused, by whether it tells that the spawn is declined, and whether that is out
-abbrev step_on : master.Known → Message → ℕ → ℕ → SpawnRec → Bool → Bool → Step master.Known Message
-step_on m message s at r declined out = answering m.name message at None m (cond declined (cond out (freeing s at m r) (noted s m)) (noted s m))
+abbrev step_on : master.State → Message → ℕ → ℕ → SpawnRec → Bool → Bool → Step master.State Message
+step_on m message s at r declined out = message_step m.name message at None m (cond declined (cond out (withdrawal_taking s at m r) (note_taking s m)) (note_taking s m))
 
 -- the same, by why it is refused and by the record of the spawn
-abbrev step_by : master.Known → Message → ℕ → ℕ → Bool → Option Refusal → Option SpawnRec → Step master.Known Message
-step_by m message s at declined why o = answering m.name message at why m (cond declined (while_out (freeing s at m) (noted s m) o) (noted s m))
+abbrev step_by : master.State → Message → ℕ → ℕ → Bool → Option Refusal → Option SpawnRec → Step master.State Message
+step_by m message s at declined why o = message_step m.name message at why m (cond declined (while_out (withdrawal_taking s at m) (note_taking s m) o) (note_taking s m))
 
 freed_by : (declined out : Bool) (c : Controllers) (message : Message) (s at : ℕ) (r : SpawnRec) → r.id ≡ s → (declined ≡ true → out ≡ true → IsFreed c r) → ((told : Result QueueStatus ℕ) → option_map tag_of (answer_to c.master.name message at told) ≡ None)
-    → Agrees (master_moved c (step_on c.master message s at r declined out)) (cond (out && declined) (shop.replies (reply.Freed r.id) (acts.freed at (spawn_shown c r) (shop_shown c))) (shop.replies (reply.Noted r.id) (shop_shown c)))
+    → Agrees (master_moved c (step_on c.master message s at r declined out)) (cond (out && declined) (shop.quiet_step (reply.Freed r.id) (acts.after_withdrawal at (spawn_shown c r) (shop_shown c))) (shop.quiet_step (reply.Noted r.id) (shop_shown c)))
 freed_by true true c message s at r number freed unanswered =
     let h = freed refl refl in
     record {
@@ -226,8 +226,8 @@ no_part e kept declined = gone e.part (kept.held ∙ empty e.phase declined)
     gone None e = refl
     gone (Some x) e = absurd (true≢false e)
 
-pub abort_is_answered : (w : State) (sender receiver : List ℕ) (sent s : ℕ) (told : Result QueueStatus ℕ) (at : ℕ) → IsKept w → IsInOrder w.controllers (answer sender receiver sent command.Abort s told)
-    → StepsAgree (Ok (master_moved w.controllers (taken_by_master (answer sender receiver sent command.Abort s told) at w.controllers.master))) (shop.message_comes at (shop_shown w.controllers) (shop.ToAbort s))
+pub abort_is_answered : (w : State) (sender receiver : List ℕ) (sent s : ℕ) (told : Result QueueStatus ℕ) (at : ℕ) → IsConsistent w → IsInOrder w.controllers (answer sender receiver sent command.Abort s told)
+    → StepsAgree (Ok (master_moved w.controllers (taken_by_master (answer sender receiver sent command.Abort s told) at w.controllers.master))) (shop.on_message at (shop_shown w.controllers) (shop.ToAbort s))
 abort_is_answered w sender receiver sent s told at ok h =
     let c = w.controllers in
     let p = shop_shown c in
@@ -248,11 +248,11 @@ abort_is_answered w sender receiver sent s told at ok h =
       entered = says.1;
       part = no_part e (entry_kept c r.worker r.id e ok.workers says.1) (sym is_declined ∙ is);
     } in
-    let frees = shop.replies (reply.Freed r.id) (acts.freed at a p) in
-    let notes = shop.replies (reply.Noted r.id) p in
+    let frees = shop.quiet_step (reply.Freed r.id) (acts.after_withdrawal at a p) in
+    let notes = shop.quiet_step (reply.Noted r.id) p in
     subst (StepsAgree (Ok (master_moved c (taken_by_master m at c.master))))
-    (sym (ap (λ o. option_map_or (λ b. Ok (shop.abort_answered at p b)) o (Err NoMessage)) (spawn_found c s ∙ ap (option_map (spawn_shown c)) h.recorded)))
-    (subst (λ why. Agrees (master_moved c (step_by c.master m s at declined why (master.record_of c.master.records s))) (shop.abort_answered at p a)) (sym (master_refuses_nothing c m ok.recorded ok.back refl h))
-    (subst (λ o. Agrees (master_moved c (step_by c.master m s at declined None o)) (shop.abort_answered at p a)) (sym h.recorded)
+    (sym (ap (λ o. option_map_or (λ b. Ok (shop.on_abort_answer at p b)) o (Err NoMessage)) (spawn_found c s ∙ ap (option_map (spawn_shown c)) h.recorded)))
+    (subst (λ why. Agrees (master_moved c (step_by c.master m s at declined why (master.record_of c.master.records s))) (shop.on_abort_answer at p a)) (sym (master_refuses_nothing c m ok.recorded ok.back refl h))
+    (subst (λ o. Agrees (master_moved c (step_by c.master m s at declined None o)) (shop.on_abort_answer at p a)) (sym h.recorded)
     (subst (λ b. Agrees (master_moved c (step_on c.master m s at r declined (is_out r))) (cond b frees notes)) (sym shown)
     (freed_by declined (is_out r) c m s at r number freed (λ said. refl)))))

@@ -6,19 +6,19 @@ use Rattle.world.proofs.AlwaysKept.{kept_after_all}
 use Rattle.world.proofs.Events.{event_is_replayed, events_are_replayed}
 use Rattle.world.proofs.Unknown.{not_made}
 use Rattle.world.specs.Controllers.{Controllers}
-use Rattle.world.specs.Happening.{IsUnknown, after_all, machine, settled, step_of}
+use Rattle.world.specs.Happening.{IsUnknown, after_all, machine, next_state, step_of}
 use Rattle.world.specs.Laws.{FailedSaveIsStop}
 use Rattle.world.specs.Replay as replay
 use Rattle.world.specs.Running.{IsCutOff, IsStopped, stopping}
 use Rattle.world.specs.Showing.{shows}
-use Rattle.world.specs.State.{IsKept, State}
+use Rattle.world.specs.State.{IsConsistent, State}
 use Rattle.world_items.specs.declared.event.Event.{Event}
 use Rattle.world_items.specs.declared.stop.Stop.TheVariants.{BeforeSave, BeforeSend}
 use Rattle.world_items.specs.declared.what.What.{What}
 
 -- ---- one event
 
-pub stop_shown : (w new : State) (e : Event) → IsKept w → IsStopped machine e w new → IsStopped replay.machine e (shows w) (shows new)
+pub stop_shown : (w new : State) (e : Event) → IsConsistent w → IsStopped machine e w new → IsStopped replay.machine e (shows w) (shows new)
 stop_shown w new e kept (inl is) = inl (ap shows is ∙ (event_is_replayed w (stopping BeforeSave e) kept).1)
 stop_shown w new e kept (inr is) = inr (ap shows is ∙ (event_is_replayed w (stopping BeforeSend e) kept).1)
 
@@ -27,7 +27,7 @@ pub stopped_so : {A E : Type 0} (result : Result A E) (e : Event) (what : What) 
 stopped_so (Ok a) e what w new is stopped = tt
 stopped_so (Err f) e what w new is stopped = subst (λ x. IsUnknown w (step_of x e.at w) new) (sym is) stopped
 
-pub stop_so : {A E : Type 0} (result : Result A E) (e : Event) (what : What) (w new : State) → IsKept w → e.what ≡ what → OnErr result (IsUnknown w (step_of what e.at w) new) → OnErr result (IsStopped replay.machine e (shows w) (shows new))
+pub stop_so : {A E : Type 0} (result : Result A E) (e : Event) (what : What) (w new : State) → IsConsistent w → e.what ≡ what → OnErr result (IsUnknown w (step_of what e.at w) new) → OnErr result (IsStopped replay.machine e (shows w) (shows new))
 stop_so (Ok a) e what w new kept is stopped = tt
 stop_so (Err f) e what w new kept is stopped = stop_shown w new e kept (subst (λ x. IsUnknown w (step_of x e.at w) new) (sym is) stopped)
 
@@ -37,7 +37,7 @@ not_begun w e = not_made w (step_of e.what e.at w)
 
 -- ---- events in turn
 
-pub cut_shown : (events : List Event) (w new : State) → IsKept w → IsCutOff machine events w new → IsCutOff replay.machine events (shows w) (shows new)
+pub cut_shown : (events : List Event) (w new : State) → IsConsistent w → IsCutOff machine events w new → IsCutOff replay.machine events (shows w) (shows new)
 cut_shown events w new kept cut =
     let before = after_all (take cut.place events) w in
     record {
@@ -65,8 +65,8 @@ some_there (suc n) room is wanted = omega arith
 
 by_held : (w : State) (e : Event) (step : Step Controllers Message) (held : Controllers) → step_of e.what e.at w ≡ Ok step → (held ≡ w.controllers) ⊎ (held ≡ step.next)
     → IsStopped machine e w (record { controllers = held; messages = w.messages })
-by_held w e step held is (inl same) = inl (ap (λ (c : Controllers). record { controllers = c; messages = w.messages }) same ∙ sym (ap (settled BeforeSave w) is))
-by_held w e step held is (inr next) = inr (ap (λ (c : Controllers). record { controllers = c; messages = w.messages }) next ∙ sym (ap (settled BeforeSend w) is))
+by_held w e step held is (inl same) = inl (ap (λ (c : Controllers). record { controllers = c; messages = w.messages }) same ∙ sym (ap (next_state BeforeSave w) is))
+by_held w e step held is (inr next) = inr (ap (λ (c : Controllers). record { controllers = c; messages = w.messages }) next ∙ sym (ap (next_state BeforeSend w) is))
 
 pub failed_save_is_stop : FailedSaveIsStop
 failed_save_is_stop w e step held kept is either =

@@ -30,23 +30,23 @@ and_mapped P Q f (Some x) go h = go x h
 
 -- ---- names
 
-same_name : (name : List ℕ) (v : worker.Known) → is_named name v ≡ true → v.name ≡ name
+same_name : (name : List ℕ) (v : worker.State) → is_named name v ≡ true → v.name ≡ name
 same_name name v e = (bytes_eq-Decides v.name name).0 e
 
-named_so : (name : List ℕ) (v : worker.Known) → v.name ≡ name → is_named name v ≡ true
+named_so : (name : List ℕ) (v : worker.State) → v.name ≡ name → is_named name v ≡ true
 named_so name v e = ap (λ n. bytes_eq n name) e ∙ bytes_eq-same name
 
 -- the names stay
-pub names_stay : (name : List ℕ) (next : worker.Known) (workers : List worker.Known) → next.name ≡ name → map (λ (v : worker.Known). v.name) (with_worker name next workers) ≡ map (λ (v : worker.Known). v.name) workers
+pub names_stay : (name : List ℕ) (next : worker.State) (workers : List worker.State) → next.name ≡ name → map (λ (v : worker.State). v.name) (with_worker name next workers) ≡ map (λ (v : worker.State). v.name) workers
 names_stay name next [] own = refl
-names_stay name next (v ∷ vs) own = ap (λ n. n ∷ map (λ (u : worker.Known). u.name) (with_worker name next vs)) (here (is_named name v) refl) ∙ ap (λ ns. v.name ∷ ns) (names_stay name next vs own)
+names_stay name next (v ∷ vs) own = ap (λ n. n ∷ map (λ (u : worker.State). u.name) (with_worker name next vs)) (here (is_named name v) refl) ∙ ap (λ ns. v.name ∷ ns) (names_stay name next vs own)
   where
     here : (b : Bool) → is_named name v ≡ b → (cond b next v).name ≡ v.name
     here true e = own ∙ sym (same_name name v e)
     here false e = refl
 
 -- what holds of each, and of the one that is stored, holds of each then
-pub All-with_worker : (P : worker.Known → Type 0) (name : List ℕ) (next : worker.Known) (workers : List worker.Known) → P next → All P workers → All P (with_worker name next workers)
+pub All-with_worker : (P : worker.State → Type 0) (name : List ℕ) (next : worker.State) (workers : List worker.State) → P next → All P workers → All P (with_worker name next workers)
 All-with_worker P name next [] own all = All-nil P
 All-with_worker P name next (v ∷ vs) own all = All-cons P (cond (is_named name v) next v) (with_worker name next vs) (here (is_named name v)) (All-with_worker P name next vs own (All-tail P v vs all))
   where
@@ -56,19 +56,19 @@ All-with_worker P name next (v ∷ vs) own all = All-cons P (cond (is_named name
 
 -- ---- what is found by a name
 
-pub worker_there : (name : List ℕ) (next : worker.Known) (workers : List worker.Known) → next.name ≡ name → worker_of (with_worker name next workers) name ≡ option_map (λ _. next) (worker_of workers name)
+pub worker_there : (name : List ℕ) (next : worker.State) (workers : List worker.State) → next.name ≡ name → worker_of (with_worker name next workers) name ≡ option_map (λ _. next) (worker_of workers name)
 worker_there name next [] own = refl
 worker_there name next (v ∷ vs) own = here (is_named name v) refl (worker_of (with_worker name next vs) name) (worker_there name next vs own)
   where
-    here : (b : Bool) → is_named name v ≡ b → (later : Option worker.Known) → later ≡ option_map (λ _. next) (worker_of vs name) → cond (is_named name (cond b next v)) (Some (cond b next v)) later ≡ option_map (λ _. next) (cond b (Some v) (worker_of vs name))
+    here : (b : Bool) → is_named name v ≡ b → (later : Option worker.State) → later ≡ option_map (λ _. next) (worker_of vs name) → cond (is_named name (cond b next v)) (Some (cond b next v)) later ≡ option_map (λ _. next) (cond b (Some v) (worker_of vs name))
     here true e later rest = ap (λ t. cond t (Some next) later) (named_so name next own)
     here false e later rest = ap (λ t. cond t (Some v) later) e ∙ rest
 
-pub worker_other : (name n : List ℕ) (next : worker.Known) (workers : List worker.Known) → next.name ≡ name → bytes_eq name n ≡ false → worker_of (with_worker name next workers) n ≡ worker_of workers n
+pub worker_other : (name n : List ℕ) (next : worker.State) (workers : List worker.State) → next.name ≡ name → bytes_eq name n ≡ false → worker_of (with_worker name next workers) n ≡ worker_of workers n
 worker_other name n next [] own other = refl
 worker_other name n next (v ∷ vs) own other = here (is_named name v) refl (worker_of (with_worker name next vs) n) (worker_other name n next vs own other)
   where
-    here : (b : Bool) → is_named name v ≡ b → (later : Option worker.Known) → later ≡ worker_of vs n → cond (is_named n (cond b next v)) (Some (cond b next v)) later ≡ cond (is_named n v) (Some v) (worker_of vs n)
+    here : (b : Bool) → is_named name v ≡ b → (later : Option worker.State) → later ≡ worker_of vs n → cond (is_named n (cond b next v)) (Some (cond b next v)) later ≡ cond (is_named n v) (Some v) (worker_of vs n)
     here true e later rest =
         ap (λ t. cond t (Some next) later) (ap (λ m. bytes_eq m n) own ∙ other) ∙ rest
         ∙ sym (ap (λ t. cond t (Some v) (worker_of vs n)) (ap (λ m. bytes_eq m n) (same_name name v e) ∙ other))
@@ -77,19 +77,19 @@ worker_other name n next (v ∷ vs) own other = here (is_named name v) refl (wor
 -- ---- entries
 
 -- the entries of the one that is stored are found at it
-pub entry_there : (name : List ℕ) (v next : worker.Known) (workers : List worker.Known) (s : ℕ) → worker_of workers name ≡ Some v → next.name ≡ name → entry_at (with_worker name next workers) name s ≡ worker.entry_of next.entries s
+pub entry_there : (name : List ℕ) (v next : worker.State) (workers : List worker.State) (s : ℕ) → worker_of workers name ≡ Some v → next.name ≡ name → entry_at (with_worker name next workers) name s ≡ worker.entry_of next.entries s
 entry_there name v next workers s found own =
-    ap (option_and_then (λ (u : worker.Known). worker.entry_of u.entries s)) (worker_there name next workers own ∙ ap (option_map (λ _. next)) found)
+    ap (option_and_then (λ (u : worker.State). worker.entry_of u.entries s)) (worker_there name next workers own ∙ ap (option_map (λ _. next)) found)
 
 -- an entry has another of which a fact holds, if it has at that one, and holds of it as it is
-pub entry_goes_on : (P : Entry → Type 0) (name n : List ℕ) (v next : worker.Known) (workers : List worker.Known) (s : ℕ) (e : Entry) → worker_of workers name ≡ Some v → next.name ≡ name → P e
+pub entry_goes_on : (P : Entry → Type 0) (name n : List ℕ) (v next : worker.State) (workers : List worker.State) (s : ℕ) (e : Entry) → worker_of workers name ≡ Some v → next.name ≡ name → P e
     → (worker.entry_of v.entries s ≡ Some e → (x : Entry) × (worker.entry_of next.entries s ≡ Some x) × P x) → entry_at workers n s ≡ Some e → (x : Entry) × (entry_at (with_worker name next workers) n s ≡ Some x) × P x
 entry_goes_on P name n v next workers s e found own same stays there = by (bytes_eq name n) refl
   where
     by : (b : Bool) → bytes_eq name n ≡ b → (x : Entry) × (entry_at (with_worker name next workers) n s ≡ Some x) × P x
     by true same =
         let one : name ≡ n = (bytes_eq-Decides name n).0 same in
-        let old : worker.entry_of v.entries s ≡ Some e = sym (ap (option_and_then (λ (u : worker.Known). worker.entry_of u.entries s)) found) ∙ ap (λ m. entry_at workers m s) one ∙ there in
+        let old : worker.entry_of v.entries s ≡ Some e = sym (ap (option_and_then (λ (u : worker.State). worker.entry_of u.entries s)) found) ∙ ap (λ m. entry_at workers m s) one ∙ there in
         let on = stays old in
         (on.0, ap (λ m. entry_at (with_worker name next workers) m s) (sym one) ∙ entry_there name v next workers s found own ∙ on.1, on.2)
-    by false other = (e, ap (option_and_then (λ (u : worker.Known). worker.entry_of u.entries s)) (worker_other name n next workers own other) ∙ there, same)
+    by false other = (e, ap (option_and_then (λ (u : worker.State). worker.entry_of u.entries s)) (worker_other name n next workers own other) ∙ there, same)

@@ -23,7 +23,7 @@ use Rattle.worker_core.specs.Worker as worker
 use Rattle.worker_core.specs.declared.entry.Entry.{Entry}
 use Rattle.worker_core.specs.declared.stage.Stage.{Stage}
 use Rattle.worker_core.specs.declared.stage.Stage.TheVariants as stages
-use Rattle.world.proofs.Back.{back_shut, one_record}
+use Rattle.world.proofs.EndedEntries.{back_shut, one_record}
 use Rattle.world.proofs.Cases.{found_both, found_made, none_found, split}
 use Rattle.world.proofs.Stored.{and_found}
 use Rattle.world.specs.Controllers.{Controllers, entry_at, is_named, worker_of}
@@ -32,7 +32,7 @@ use Rattle.world.specs.Shop.{Closed, Declined, Done, Merged, Open, Phase, is_awa
 use Rattle.world.specs.Shop as plain
 use Rattle.world.specs.ShopSteps.{is_taken_by}
 use Rattle.world.specs.Showing.{phase_shown, spawn_shown}
-use Rattle.world.specs.State.{IsKept, State}
+use Rattle.world.specs.State.{IsConsistent, State}
 
 -- ---- phases
 
@@ -132,13 +132,13 @@ pub record HasRecord (c : Controllers) (name : List ℕ) (s : ℕ) (e : Entry) :
   pub fits : is_out spawn ≡ true → worker.is_declined e ≡ false → IsSomeAnd e.part (Fits c.master.ticket spawn)
   pub back : is_out spawn ≡ false → IsBack spawn.phase e
 
-entry_there : (c : Controllers) (name : List ℕ) (s : ℕ) (v : worker.Known) → worker_of c.workers name ≡ Some v → entry_at c.workers name s ≡ worker.entry_of v.entries s
-entry_there c name s v found = ap (option_and_then (λ (u : worker.Known). worker.entry_of u.entries s)) found
+entry_there : (c : Controllers) (name : List ℕ) (s : ℕ) (v : worker.State) → worker_of c.workers name ≡ Some v → entry_at c.workers name s ≡ worker.entry_of v.entries s
+entry_there c name s v found = ap (option_and_then (λ (u : worker.State). worker.entry_of u.entries s)) found
 
-pub name_of : (c : Controllers) (name : List ℕ) (v : worker.Known) → worker_of c.workers name ≡ Some v → v.name ≡ name
+pub name_of : (c : Controllers) (name : List ℕ) (v : worker.State) → worker_of c.workers name ≡ Some v → v.name ≡ name
 name_of c name v found = (bytes_eq-Decides v.name name).0 (find-passes (is_named name) c.workers v found)
 
-pub entry_record : (w : State) (name : List ℕ) (s : ℕ) (v : worker.Known) (e : Entry) → IsKept w → worker_of w.controllers.workers name ≡ Some v → worker.entry_of v.entries s ≡ Some e → HasRecord w.controllers name s e
+pub entry_record : (w : State) (name : List ℕ) (s : ℕ) (v : worker.State) (e : Entry) → IsConsistent w → worker_of w.controllers.workers name ≡ Some v → worker.entry_of v.entries s ≡ Some e → HasRecord w.controllers name s e
 entry_record w name s v e ok found has_entry =
     let c = w.controllers in
     let records = c.master.records in
@@ -187,7 +187,7 @@ taken_shown c name s e h taken =
     ∙ ap (option_map (spawn_shown c)) (found_both (λ q. is_of s q && bytes_eq q.worker name) (λ q. is_taken (phase_shown q.phase (entry_for c q))) records r by_name here)
 
 -- and that of one that was declined isn't
-pub declined_shown : (w : State) (name : List ℕ) (s : ℕ) (e : Entry) → IsKept w → (h : HasRecord w.controllers name s e) → worker.is_declined e ≡ true → find (is_taken_by name s) (map (spawn_shown w.controllers) w.controllers.master.records) ≡ None
+pub declined_shown : (w : State) (name : List ℕ) (s : ℕ) (e : Entry) → IsConsistent w → (h : HasRecord w.controllers name s e) → worker.is_declined e ≡ true → find (is_taken_by name s) (map (spawn_shown w.controllers) w.controllers.master.records) ≡ None
 declined_shown w name s e ok h declined =
     let c = w.controllers in
     let records = c.master.records in
@@ -200,7 +200,7 @@ declined_shown w name s e ok h declined =
     true≢false (sym parts.1 ∙ ap (λ (y : SpawnRec). is_taken (phase_shown y.phase (entry_for c y))) same ∙ here))) (only_record records s r ok.master.numbered h.recorded))
 
 -- where the worker has no entry none is
-pub none_shown : (w : State) (name : List ℕ) (s : ℕ) (v : worker.Known) → IsKept w → worker_of w.controllers.workers name ≡ Some v → worker.entry_of v.entries s ≡ None → find (is_taken_by name s) (map (spawn_shown w.controllers) w.controllers.master.records) ≡ None
+pub none_shown : (w : State) (name : List ℕ) (s : ℕ) (v : worker.State) → IsConsistent w → worker_of w.controllers.workers name ≡ Some v → worker.entry_of v.entries s ≡ None → find (is_taken_by name s) (map (spawn_shown w.controllers) w.controllers.master.records) ≡ None
 none_shown w name s v ok found none =
     let c = w.controllers in
     let records = c.master.records in

@@ -11,7 +11,7 @@ use Rattle.ticket_items.specs.declared.node_row.NodeRow.{NodeRow}
 use Rattle.ticket_items.specs.declared.resource.Resource.{Resource}
 use Rattle.ticket_rows.proofs.Below.{Follows, Follows-outline, Path, length-path_of}
 use Rattle.ticket_rows.proofs.NodePlaces.{node_ids_distinct}
-use Rattle.ticket_rows.specs.Place.{Place, lines, lines_of, node_place, node_thing, path_of, places, places_from, places_of, resource_place, resource_thing, row_in}
+use Rattle.ticket_rows.specs.Place.{Place, node_place, node_thing, path_of, places, places_from, places_of, resource_place, resource_thing, row_in, rows_by_id, rows_by_id_of}
 use Rattle.ticket_rows.specs.Ticket.{IsValid, node_ids}
 use Rattle.ticket_tree.proofs.ById.{Line, pool_lines, row_at}
 use Rattle.ticket_tree.proofs.PlainRows.{keys_of_lines}
@@ -74,7 +74,7 @@ pool_at n id above (x ∷ xs) b e =
     here true rest = ap (λ ps. resource_place (id ∷ above) x ∷ ps) rest
     here false rest = rest
 
-own_pool : (f : Rows) (n : List ℕ) (before : Path) (r : NodeRow) (b : Bool) → bytes_eq r.id n ≡ b → OwnLines f (lines_of r) → filter_map (resource_there f) (filter (is_at n) (places_of r (path_of before r))) ≡ cond b r.resources []
+own_pool : (f : Rows) (n : List ℕ) (before : Path) (r : NodeRow) (b : Bool) → bytes_eq r.id n ≡ b → OwnLines f (rows_by_id_of r) → filter_map (resource_there f) (filter (is_at n) (places_of r (path_of before r))) ≡ cond b r.resources []
 own_pool f n before r b e own =
     let path = path_of before r in
     let p : Place = node_place r path in
@@ -85,11 +85,11 @@ own_pool f n before r b e own =
     here true = ap (λ o. cons_option (option_and_then (as_resource r.id (node_thing r)) o) (filter_map (resource_there f) (map (resource_place (path_of before r)) r.resources))) own.0 ∙ pool_told f (path_of before r) r.resources own.1
     here false = refl
 
-pools_there : (f : Rows) (n : List ℕ) (before : Path) (rows : List NodeRow) → OwnLines f (lines rows) → pool_of (places_from before rows) f n ≡ flat_map (pick n) rows
+pools_there : (f : Rows) (n : List ℕ) (before : Path) (rows : List NodeRow) → OwnLines f (rows_by_id rows) → pool_of (places_from before rows) f n ≡ flat_map (pick n) rows
 pools_there f n before [] own = refl
 pools_there f n before (r ∷ rows) own =
     let path = path_of before r in
-    let parts = own_parts f (lines_of r) (lines rows) own in
+    let parts = own_parts f (rows_by_id_of r) (rows_by_id rows) own in
     ap (filter_map (resource_there f)) (filter-append (is_at n) (places_of r path) (places_from path rows))
     ∙ filter_map-append (resource_there f) (filter (is_at n) (places_of r path)) (filter (is_at n) (places_from path rows))
     ∙ ap (λ xs. xs ++ pool_of (places_from path rows) f n) (own_pool f n before r (bytes_eq r.id n) refl parts.0)
@@ -135,13 +135,13 @@ no_nodes tree f path (x ∷ xs) own =
     let p : Place = resource_place path x in
     ap (λ o. cons_option (option_and_then (as_node p (pool_of tree f x.id) (resource_thing x)) o) (filter_map (node_there tree f) (map (resource_place path) xs))) own.0 ∙ no_nodes tree f path xs own.1
 
-nodes_there : (tree : List Place) (f : Rows) (before : Path) (rows : List NodeRow) → Follows before rows → OwnLines f (lines rows) → filter_map (node_there tree f) (places_from before rows) ≡ map (λ (r : NodeRow). record r { resources = pool_of tree f r.id }) rows
+nodes_there : (tree : List Place) (f : Rows) (before : Path) (rows : List NodeRow) → Follows before rows → OwnLines f (rows_by_id rows) → filter_map (node_there tree f) (places_from before rows) ≡ map (λ (r : NodeRow). record r { resources = pool_of tree f r.id }) rows
 nodes_there tree f before [] follows own = refl
 nodes_there tree f before (r ∷ rows) follows own =
     let path = path_of before r in
     let p : Place = node_place r path in
     let pool = pool_of tree f r.id in
-    let parts = own_parts f (lines_of r) (lines rows) own in
+    let parts = own_parts f (rows_by_id_of r) (rows_by_id rows) own in
     let resources = map (resource_place path) r.resources in
     let later = filter_map (node_there tree f) (resources ++ places_from path rows) in
     ap (λ o. cons_option (option_and_then (as_node p pool (node_thing r)) o) later) own.0
@@ -155,7 +155,7 @@ nodes_there tree f before (r ∷ rows) follows own =
 
 pub rows_told : (rows : List NodeRow) → IsValid rows → nodes_told (places rows) (row_in rows) ≡ rows
 rows_told rows valid =
-    let own = own_lines (lines rows) (ap are_distinct (keys_of_lines rows) ∙ valid.distinct) in
+    let own = own_lines (rows_by_id rows) (ap are_distinct (keys_of_lines rows) ∙ valid.distinct) in
     nodes_there (places rows) (row_in rows) [] rows (Follows-outline rows valid.tree) own
     ∙ ap (λ (pool : List ℕ → List Resource). map (λ (r : NodeRow). record r { resources = pool r.id }) rows) (λ j n. pools_there (row_in rows) n [] rows own j)
     ∙ with_pools (λ n. flat_map (pick n) rows) rows (own_pools rows (node_ids_distinct rows valid.distinct))

@@ -93,11 +93,11 @@ at_the_end = after_all once_and_again shop
 master_may : may_change at_the_end.controllers.master (codes "n1") ≡ true
 master_may = refl
 
-press_may : option_map (λ (w : worker.Known). worker.may_change w.entries 1 (codes "n1")) (worker_of at_the_end.controllers.workers (codes "press")) ≡ Some false
+press_may : option_map (λ (w : worker.State). worker.may_change w.entries 1 (codes "n1")) (worker_of at_the_end.controllers.workers (codes "press")) ≡ Some false
 press_may = refl
 
 -- and has given up its part, whatever comes then
-press_entries : option_map (λ (w : worker.Known). w.entries) (worker_of at_the_end.controllers.workers (codes "press"))
+press_entries : option_map (λ (w : worker.State). w.entries) (worker_of at_the_end.controllers.workers (codes "press"))
     ≡ Some (record { spawn_id = 1; phase = stage.Closed Completed; part = None; at = 120 } ∷ [])
 press_entries = refl
 

@@ -21,9 +21,9 @@ use Rattle.worker_core.specs.declared.end.End.TheVariants.{Completed}
 use Rattle.worker_core.specs.declared.order.Order.TheVariants as worker
 use Rattle.world.proofs.Worked.{deliver, event, given_up, job, once_and_again, press, print_at, says, sends, shop}
 use Rattle.world.specs.Happening as world
-use Rattle.world.specs.Replay.{Shown, after_all, answers_to, opening}
+use Rattle.world.specs.Replay.{TaggedShop, after_all, answers_to, opening}
 use Rattle.world.specs.SeenTicket.{ticket_seen}
-use Rattle.world.specs.Shop.{Closed, Merged, Open, Phase, Shop}
+use Rattle.world.specs.Shop.{Closed, Merged, Open, Phase, PlainState}
 use Rattle.world.specs.ShopMarks.{shop_marks}
 use Rattle.world.specs.Showing.{shows}
 use Rattle.world.specs.ShopSteps.{Return, Submit, ToReturn, ToSubmit}
@@ -33,21 +33,21 @@ use Rattle.world_items.specs.declared.stop.Stop.TheVariants.{Run, BeforeSave}
 use Rattle.world_items.specs.declared.what.What.TheVariants.{MasterOrder, WorkerOrder, Deliver}
 use Rattle.world_items.specs.declared.word.Word.TheVariants.{Did, NoMessage, Refused, Stopped}
 
-abbrev first : Shown
+abbrev first : TaggedShop
 first = opening (codes "mis") (codes "press" ∷ codes "bind" ∷ []) job
 
 -- what the master sees: the ticket in the beginning, the audits of a node, and the Status of a resource
 the_ticket : ticket_seen first.shop ≡ job
 the_ticket = refl
 
-abbrev audits_of : List ℕ → Shop → Option (List Audit)
+abbrev audits_of : List ℕ → PlainState → Option (List Audit)
 audits_of n p = option_map (λ r. r.audits) (row_of (ticket_seen p).rows n)
 
-abbrev status_of : List ℕ → Shop → Option (List ℕ)
+abbrev status_of : List ℕ → PlainState → Option (List ℕ)
 status_of x p = option_map (λ r. r.status) (resource_of (ticket_seen p).rows x)
 
 -- how far the spawns have come
-abbrev phases_of : Shown → List Phase
+abbrev phases_of : TaggedShop → List Phase
 phases_of p = map (λ a. a.phase) p.shop.spawns
 
 -- ---- a spawn
@@ -185,7 +185,7 @@ abbrev all_ids : List (List ℕ)
 all_ids = codes "n0" ∷ codes "n1" ∷ codes "n2" ∷ codes "r1" ∷ codes "r2" ∷ codes "r9" ∷ []
 
 -- what two shops have in common, for the ids that stand and one that doesn't
-pub record Agree (p q : Shown) : Type 0 where
+pub record Agree (p q : TaggedShop) : Type 0 where
   pub tags : p.tags ≡ q.tags
   pub tree : p.shop.tree ≡ q.shop.tree
   pub ticket : ticket_seen p.shop ≡ ticket_seen q.shop
@@ -197,7 +197,7 @@ pub record Agree (p q : Shown) : Type 0 where
 abbrev AreReplayed : List Event → Type 0
 AreReplayed events = (world.answers_to events shop ≡ answers_to events first) × Agree (shows (world.after_all events shop)) (after_all events first)
 
-all_agree : {p q : Shown} → p.tags ≡ q.tags → p.shop.tree ≡ q.shop.tree → ticket_seen p.shop ≡ ticket_seen q.shop → map p.shop.now all_ids ≡ map q.shop.now all_ids → map p.shop.holder all_ids ≡ map q.shop.holder all_ids
+all_agree : {p q : TaggedShop} → p.tags ≡ q.tags → p.shop.tree ≡ q.shop.tree → ticket_seen p.shop ≡ ticket_seen q.shop → map p.shop.now all_ids ≡ map q.shop.now all_ids → map p.shop.holder all_ids ≡ map q.shop.holder all_ids
     → p.shop.spawns ≡ q.shop.spawns → Agree p q
 all_agree tags tree ticket now holder spawns = record { tags = tags; tree = tree; ticket = ticket; now = now; holder = holder; spawns = spawns }
 
@@ -205,7 +205,7 @@ one_is_replayed : AreReplayed one_spawn
 one_is_replayed = (refl, all_agree refl refl refl refl refl refl)
 
 -- the sheets midway, as they are and as the master sees them: in the replay, and as the controllers show them
-abbrev now_and_seen : Shown → Option (List ℕ) × Option (List ℕ)
+abbrev now_and_seen : TaggedShop → Option (List ℕ) × Option (List ℕ)
 now_and_seen p = (option_map (λ r. r.status) (p.shop.now (codes "r2")), option_map (λ r. r.status) (p.shop.seen (codes "r2")))
 
 midway_sheets : now_and_seen (after_all bind_is_back first) ≡ (Some (codes "Available"), Some (codes "Unavailable"))

@@ -15,9 +15,9 @@ use Rattle.worker_core.specs.declared.order.Order.TheVariants as worker
 use Rattle.worker_core.specs.declared.stage.Stage.TheVariants as stage
 use Rattle.world.proofs.Worked.{deliver, event, job, press, print_at, says, sends, shop}
 use Rattle.world.specs.Happening as world
-use Rattle.world.specs.Replay.{Shown, after_all, answers_to, opening}
+use Rattle.world.specs.Replay.{TaggedShop, after_all, answers_to, opening}
 use Rattle.world.specs.SeenTicket.{ticket_seen}
-use Rattle.world.specs.Shop.{Away, Declined, Done, Merged, Phase, Shop, Withdrawn}
+use Rattle.world.specs.Shop.{Away, Declined, Done, Merged, Phase, PlainState, Withdrawn}
 use Rattle.world.specs.ShopMarks.{shop_marks}
 use Rattle.world.specs.Showing.{shows}
 use Rattle.world.specs.ShopSteps.{Abort, Return, Submit, ToAbort, ToReturn, ToSubmit}
@@ -28,7 +28,7 @@ use Rattle.world_items.specs.declared.stop.Stop.TheVariants.{Run}
 use Rattle.world_items.specs.declared.what.What.TheVariants.{MasterOrder}
 use Rattle.world_items.specs.declared.word.Word.TheVariants.{Did, Refused}
 
-abbrev first : Shown
+abbrev first : TaggedShop
 first = opening (codes "mis") (codes "press" ∷ codes "bind" ∷ []) job
 
 abbrev withdraw_at : ℕ → Event
@@ -41,13 +41,13 @@ abbrev printing_started : ℕ → Event
 printing_started at = press (worker.Edit 1 (SetStatus (codes "n1") (codes "InProgress"))) at
 
 -- how far the spawns have come, and what the ticket tells
-abbrev phases_of : Shown → List Phase
+abbrev phases_of : TaggedShop → List Phase
 phases_of p = map (λ a. a.phase) p.shop.spawns
 
-abbrev audits_of : List ℕ → Shop → Option (List Audit)
+abbrev audits_of : List ℕ → PlainState → Option (List Audit)
 audits_of n p = option_map (λ r. r.audits) (row_of (ticket_seen p).rows n)
 
-abbrev status_of : List ℕ → Shop → Option (List ℕ)
+abbrev status_of : List ℕ → PlainState → Option (List ℕ)
 status_of n p = option_map (λ r. r.status) (row_of (ticket_seen p).rows n)
 
 -- ---- before the part is taken
@@ -86,13 +86,13 @@ on_freeing : world.answers_to freed (world.after_all declined (world.after_all a
 on_freeing = refl
 
 -- in the replay
-abbrev when_asked : Shown
+abbrev when_asked : TaggedShop
 when_asked = after_all asked first
 
-abbrev when_declined : Shown
+abbrev when_declined : TaggedShop
 when_declined = after_all declined when_asked
 
-abbrev when_freed : Shown
+abbrev when_freed : TaggedShop
 when_freed = after_all freed when_declined
 
 asking : answers_to asked first ≡ asked_answers
@@ -139,7 +139,7 @@ freed_shown = refl
 tags_shown : (shows (world.after_all freed (world.after_all declined (world.after_all asked shop)))).tags ≡ Submit 1 ∷ Abort 1 ∷ ToAbort 1 ∷ ToSubmit 1 ∷ Submit 2 ∷ ToSubmit 1 ∷ []
 tags_shown = refl
 
-press_entries : option_map (λ (w : worker_state.Known). w.entries) (worker_of (world.after_all declined (world.after_all asked shop)).controllers.workers (codes "press"))
+press_entries : option_map (λ (w : worker_state.State). w.entries) (worker_of (world.after_all declined (world.after_all asked shop)).controllers.workers (codes "press"))
     ≡ Some (record { spawn_id = 1; phase = stage.Declined; part = None; at = 120 } ∷ [])
 press_entries = refl
 
@@ -166,10 +166,10 @@ on_ending = refl
 on_coming_back : world.answers_to back (world.after_all ended shop) ≡ back_answers
 on_coming_back = refl
 
-abbrev when_ended : Shown
+abbrev when_ended : TaggedShop
 when_ended = after_all ended first
 
-abbrev when_back : Shown
+abbrev when_back : TaggedShop
 when_back = after_all back when_ended
 
 ending : answers_to ended first ≡ ended_answers

@@ -14,54 +14,54 @@ use Rattle.world.proofs.Cases.{split, split_some}
 use Rattle.world.proofs.EntryStored.{worker_as_it_was}
 use Rattle.world.proofs.TakenSpawns.{HasRecord, declined_shown, entry_record, none_shown, taken_shown}
 use Rattle.world.specs.Controllers.{Controllers, worker_of}
-use Rattle.world.specs.Shop.{Shop}
-use Rattle.world.specs.ShopSteps.{Tag, spawn_worked, worker_does}
+use Rattle.world.specs.Shop.{PlainState}
+use Rattle.world.specs.ShopSteps.{Tag, on_order, worker_does}
 use Rattle.world.specs.Showing.{shop_shown, spawn_shown}
-use Rattle.world.specs.State.{IsKept, State}
-use Rattle.controller.specs.Step.{Step, refused, unless_refused}
+use Rattle.world.specs.State.{IsConsistent, State}
+use Rattle.controller.specs.Step.{Step, refused_step, unless_refused}
 use Rattle.worker_core.specs.Orders.{order_step as ordered_worker}
 use Rattle.world.specs.Stepping.{worker_moved}
 
 -- steps that are the same agree as these do
-pub agrees_as : (c : Controllers) (v : worker.Known) (one two : Step worker.Known Message) (p q : Step Shop Tag) → one ≡ two → p ≡ q → Agrees (worker_moved c v two) q → Agrees (worker_moved c v one) p
+pub agrees_as : (c : Controllers) (v : worker.State) (one two : Step worker.State Message) (p q : Step PlainState Tag) → one ≡ two → p ≡ q → Agrees (worker_moved c v two) q → Agrees (worker_moved c v one) p
 agrees_as c v one two p q same plain agrees = subst (λ o. Agrees (worker_moved c v o) p) (sym same) (subst (Agrees (worker_moved c v two)) (sym plain) agrees)
 
 -- both refuse for the same, or agree
-pub refused_or_agrees : (c : Controllers) (v : worker.Known) (why : Option Refusal) (moved : Step worker.Known Message) (plain : Step Shop Tag) → worker_of c.workers v.name ≡ Some v → (why ≡ None → Agrees (worker_moved c v moved) plain)
+pub refused_or_agrees : (c : Controllers) (v : worker.State) (why : Option Refusal) (moved : Step worker.State Message) (plain : Step PlainState Tag) → worker_of c.workers v.name ≡ Some v → (why ≡ None → Agrees (worker_moved c v moved) plain)
     → Agrees (worker_moved c v (unless_refused why v moved)) (unless_refused why (shop_shown c) plain)
 refused_or_agrees c v None moved plain found go = go refl
 refused_or_agrees c v (Some e) moved plain found go = record { reply = refl; next = worker_as_it_was c v found; sent = refl }
 
 -- on an order about a spawn of which the worker has an entry, that wasn't declined
-abbrev pub AgreesThere : State → worker.Known → Order → ℕ → Type 0
+abbrev pub AgreesThere : State → worker.State → Order → ℕ → Type 0
 AgreesThere w v o at =
     (e : Entry) (h : HasRecord w.controllers v.name (orders.spawn_of_order o) e) → worker.entry_of v.entries (orders.spawn_of_order o) ≡ Some e → worker.is_declined e ≡ false
-    → Agrees (worker_moved w.controllers v (unless_refused (orders.work_refusal o e) v (orders.ordered o at v)))
-    (spawn_worked o at (shop_shown w.controllers) (spawn_shown w.controllers h.spawn))
+    → Agrees (worker_moved w.controllers v (unless_refused (orders.work_refusal o e) v (orders.allowed_step o at v)))
+    (on_order o at (shop_shown w.controllers) (spawn_shown w.controllers h.spawn))
 
 -- where it has none, or has declined the spawn, both refuse
-pub worker_agrees : (w : State) (v : worker.Known) (o : Order) (at : ℕ) → IsKept w → worker_of w.controllers.workers v.name ≡ Some v → AgreesThere w v o at → Agrees (worker_moved w.controllers v (ordered_worker o at v)) (worker_does v.name o at (shop_shown w.controllers))
+pub worker_agrees : (w : State) (v : worker.State) (o : Order) (at : ℕ) → IsConsistent w → worker_of w.controllers.workers v.name ≡ Some v → AgreesThere w v o at → Agrees (worker_moved w.controllers v (ordered_worker o at v)) (worker_does v.name o at (shop_shown w.controllers))
 worker_agrees w v o at ok found there =
     let c = w.controllers in
     let p = shop_shown c in
     let s = orders.spawn_of_order o in
-    let step = λ (why : Option Refusal). unless_refused why v (orders.ordered o at v) in
+    let step = λ (why : Option Refusal). unless_refused why v (orders.allowed_step o at v) in
     split_some (worker.entry_of v.entries s)
     (λ e has_entry.
     let h = entry_record w v.name s v e ok found has_entry in
     split (worker.is_declined e)
     (λ declined.
-    agrees_as c v (ordered_worker o at v) (refused UnknownEntry v) (worker_does v.name o at p) (refused UnknownEntry p)
+    agrees_as c v (ordered_worker o at v) (refused_step UnknownEntry v) (worker_does v.name o at p) (refused_step UnknownEntry p)
     (ap step (refused_on o v.entries e has_entry ∙ of_declined o e declined))
-    (ap (λ a. option_map_or (spawn_worked o at p) a (refused UnknownEntry p)) (declined_shown w v.name s e ok h declined))
+    (ap (λ a. option_map_or (on_order o at p) a (refused_step UnknownEntry p)) (declined_shown w v.name s e ok h declined))
     (record { reply = refl; next = worker_as_it_was c v found; sent = refl }))
     (λ taken.
-    agrees_as c v (ordered_worker o at v) (step (orders.work_refusal o e)) (worker_does v.name o at p) (spawn_worked o at p (spawn_shown c h.spawn))
+    agrees_as c v (ordered_worker o at v) (step (orders.work_refusal o e)) (worker_does v.name o at p) (on_order o at p (spawn_shown c h.spawn))
     (ap step (refused_on o v.entries e has_entry ∙ of_taken o e taken))
-    (ap (λ a. option_map_or (spawn_worked o at p) a (refused UnknownEntry p)) (taken_shown c v.name s e h taken))
+    (ap (λ a. option_map_or (on_order o at p) a (refused_step UnknownEntry p)) (taken_shown c v.name s e h taken))
     (there e h has_entry taken)))
     (λ none.
-    agrees_as c v (ordered_worker o at v) (refused UnknownEntry v) (worker_does v.name o at p) (refused UnknownEntry p)
+    agrees_as c v (ordered_worker o at v) (refused_step UnknownEntry v) (worker_does v.name o at p) (refused_step UnknownEntry p)
     (ap (λ x. step (option_map_or (orders.entry_refusal o) x (Some UnknownEntry))) none)
-    (ap (λ a. option_map_or (spawn_worked o at p) a (refused UnknownEntry p)) (none_shown w v.name s v ok found none))
+    (ap (λ a. option_map_or (on_order o at p) a (refused_step UnknownEntry p)) (none_shown w v.name s v ok found none))
     (record { reply = refl; next = worker_as_it_was c v found; sent = refl }))

@@ -14,9 +14,9 @@ use Rattle.ticket_rows.specs.PartEdit.{part_lookups}
 use Rattle.ticket_rows.specs.Place.{Row, nodes_in, places, resources_in}
 use Rattle.ticket_rows.specs.Ticket.{first_of, unless}
 use Rattle.ticket_tree.proofs.PartEdits.{part_edit_of_rows}
-use Rattle.ticket_tree.specs.Part.{Copied, edited_part, refusal_of_part}
+use Rattle.ticket_tree.specs.Part.{PartCopy, edited_part, refusal_of_part}
 use Rattle.ticket_tree.specs.PartView.{part_row}
-use Rattle.ticket_tree.specs.PlainEdit.{plain_changed, plain_lookups, plain_rows, stands, touch}
+use Rattle.ticket_tree.specs.PlainEdit.{plain_changed, plain_lookups, plain_rows, stands, with_row_changed}
 use Rattle.controller.specs.declared.reply.Reply.TheVariants as reply
 use Rattle.spawn.specs.Records.{is_out}
 use Rattle.spawn.specs.declared.records.phase.Phase as records
@@ -48,10 +48,10 @@ use Rattle.world.proofs.WorkerSteps.{with_next}
 use Rattle.world.specs.Controllers.{Controllers, is_named, worker_of}
 use Rattle.world.specs.Messages.{entry_for}
 use Rattle.world.specs.Shop as shop
-use Rattle.world.specs.ShopActs.{is_held_by, worked}
+use Rattle.world.specs.ShopActs.{after_work, is_held_by}
 use Rattle.world.specs.ShopSteps as steps
 use Rattle.world.specs.Showing.{now_shown, phase_shown, row_at, seen_shown, shop_shown, spawn_shown}
-use Rattle.world.specs.State.{IsKept, State}
+use Rattle.world.specs.State.{IsConsistent, State}
 use Rattle.controller.specs.Step.{unless_refused}
 use Rattle.worker_core.specs.Orders.{order_step as ordered_worker}
 use Rattle.world.specs.Stepping.{worker_moved}
@@ -71,9 +71,9 @@ open_shown c name s e h =
     (λ isn't. ap (λ b. b && worker.is_open e) isn't ∙ sym (back_is_shut c name s e h isn't))
 
 -- the entry is kept, and that of its worker
-pub kept_entry : (w : State) (v : worker.Known) (s : ℕ) (e : Entry) → IsKept w → worker_of w.controllers.workers v.name ≡ Some v → worker.entry_of v.entries s ≡ Some e → worker.IsKeptEntry e
+pub kept_entry : (w : State) (v : worker.State) (s : ℕ) (e : Entry) → IsConsistent w → worker_of w.controllers.workers v.name ≡ Some v → worker.entry_of v.entries s ≡ Some e → worker.IsKeptEntry e
 kept_entry w v s e ok found has_entry =
-    let kept : worker.IsKept v = found_holds worker.IsKept (is_named v.name) w.controllers.workers v found ok.workers in
+    let kept : worker.IsConsistent v = found_holds worker.IsConsistent (is_named v.name) w.controllers.workers v found ok.workers in
     found_holds worker.IsKeptEntry (worker.is_of s) v.entries e has_entry kept.each
 
 -- what is open has its part, which fits while the spawn is out
@@ -88,11 +88,11 @@ open_has_part e kept = by e.phase refl
     by (worker_stage.Closed how) is = let is_open : worker.is_open e ≡ false = ap worker.is_open_stage is in ap (λ b. is_some (cond b e.part None)) is_open ∙ sym is_open
     by worker_stage.Declined is = let is_open : worker.is_open e ≡ false = ap worker.is_open_stage is in ap (λ b. is_some (cond b e.part None)) is_open ∙ sym is_open
 
-pub part_fits : (c : Controllers) (name : List ℕ) (s : ℕ) (e : Entry) (p : Copied) → (h : HasRecord c name s e) → is_out h.spawn ≡ true → worker.is_open e ≡ true → e.part ≡ Some p → Fits c.master.ticket h.spawn p
+pub part_fits : (c : Controllers) (name : List ℕ) (s : ℕ) (e : Entry) (p : PartCopy) → (h : HasRecord c name s e) → is_out h.spawn ≡ true → worker.is_open e ≡ true → e.part ≡ Some p → Fits c.master.ticket h.spawn p
 part_fits c name s e p h out is_open has = subst (λ o. IsSomeAnd o (Fits c.master.ticket h.spawn)) has (h.fits out (open_taken e is_open))
 
 -- what the spawn holds is shown as the part has it
-pub row_there : (c : Controllers) (name : List ℕ) (s : ℕ) (e : Entry) (p : Copied) (x : List ℕ) (o : Option Holder) → HasRecord c name s e → e.part ≡ Some p → o ≡ Some (held_by.Spawn s) → row_at c x o ≡ part_row p x
+pub row_there : (c : Controllers) (name : List ℕ) (s : ℕ) (e : Entry) (p : PartCopy) (x : List ℕ) (o : Option Holder) → HasRecord c name s e → e.part ≡ Some p → o ≡ Some (held_by.Spawn s) → row_at c x o ≡ part_row p x
 row_there c name s e p x o h has held =
     ap (row_at c x) held
     ∙ ap (λ q. option_map_or (λ r. part_row r x) (option_and_then (λ (y : Entry). y.part) q) (seen_shown c x)) (ap (option_and_then (entry_for c)) h.recorded ∙ h.entered)
@@ -120,7 +120,7 @@ same_later (AddResource n x) a b plain = absurd (true≢false plain)
 same_later (AddLink n link) a b plain = absurd (true≢false plain)
 
 -- while the entry is open its part has what the spawn holds, and may read what that may
-same_parts : (w : State) (v : worker.Known) (s : ℕ) (e : Edit) (x : Entry) (p : Copied) → IsKept w → worker_of w.controllers.workers v.name ≡ Some v → worker.entry_of v.entries s ≡ Some x → (h : HasRecord w.controllers v.name s x) → worker.is_open x ≡ true → x.part ≡ Some p
+same_parts : (w : State) (v : worker.State) (s : ℕ) (e : Edit) (x : Entry) (p : PartCopy) → IsConsistent w → worker_of w.controllers.workers v.name ≡ Some v → worker.entry_of v.entries s ≡ Some x → (h : HasRecord w.controllers v.name s x) → worker.is_open x ≡ true → x.part ≡ Some p
     → (orders.is_here e p ≡ steps.is_held e (spawn_shown w.controllers h.spawn) (shop_shown w.controllers)) × (orders.is_to_read e p ≡ steps.is_to_read e (spawn_shown w.controllers h.spawn) (shop_shown w.controllers))
 same_parts w v s e x p ok found has_entry h is_open has =
     let c = w.controllers in
@@ -136,7 +136,7 @@ same_parts w v s e x p ok found has_entry h is_open has =
       ap (λ b. not (is_of_node e) && b) (reads_held m.ticket r p (target e) ok.master.valid good fits kept.valid kept.sound),
     )
 
-pub same_edit_refusal : (w : State) (v : worker.Known) (s : ℕ) (e : Edit) (x : Entry) → IsKept w → worker_of w.controllers.workers v.name ≡ Some v → worker.entry_of v.entries s ≡ Some x → (h : HasRecord w.controllers v.name s x)
+pub same_edit_refusal : (w : State) (v : worker.State) (s : ℕ) (e : Edit) (x : Entry) → IsConsistent w → worker_of w.controllers.workers v.name ≡ Some v → worker.entry_of v.entries s ≡ Some x → (h : HasRecord w.controllers v.name s x)
     → orders.edit_refusal e x ≡ steps.work_refusal e (spawn_shown w.controllers h.spawn) (shop_shown w.controllers)
 same_edit_refusal w v s e x ok found has_entry h =
     let c = w.controllers in
@@ -158,7 +158,7 @@ same_edit_refusal w v s e x ok found has_entry h =
 -- ---- what is stored
 
 -- the worker's entry of the spawn is changed, and no other
-pub changed_stored : (w : State) (v : worker.Known) (s : ℕ) (x : Entry) (f : Entry → Entry) → ((y : Entry) → (f y).spawn_id ≡ y.spawn_id) → IsKept w → worker_of w.controllers.workers v.name ≡ Some v → worker.entry_of v.entries s ≡ Some x → (h : HasRecord w.controllers v.name s x)
+pub changed_stored : (w : State) (v : worker.State) (s : ℕ) (x : Entry) (f : Entry → Entry) → ((y : Entry) → (f y).spawn_id ≡ y.spawn_id) → IsConsistent w → worker_of w.controllers.workers v.name ≡ Some v → worker.entry_of v.entries s ≡ Some x → (h : HasRecord w.controllers v.name s x)
     → HasStored w.controllers v.name s (record v { entries = worker.with_entry s f v.entries }) (f x) h.spawn
 changed_stored w v s x f keeps ok found has_entry h =
     record {
@@ -172,7 +172,7 @@ changed_stored w v s x f keeps ok found has_entry h =
       numbered = ok.master.numbered;
     }
 
-plain_touch : (e : Edit) (at : ℕ) (rows : List ℕ → Option Row) (x : List ℕ) → is_structural e ≡ false → touch (target e) (plain_changed e at) rows x ≡ plain_rows e at rows x
+plain_touch : (e : Edit) (at : ℕ) (rows : List ℕ → Option Row) (x : List ℕ) → is_structural e ≡ false → with_row_changed (target e) (plain_changed e at) rows x ≡ plain_rows e at rows x
 plain_touch (SetStatus n status) at rows x plain = refl
 plain_touch (SetAttr n name value) at rows x plain = refl
 plain_touch (SetResStatus y status) at rows x plain = refl
@@ -183,7 +183,7 @@ plain_touch (AddResource n y) at rows x plain = absurd (true≢false plain)
 plain_touch (AddLink n link) at rows x plain = absurd (true≢false plain)
 
 -- the rows now, after an edit of what the spawn holds that isn't structural
-pub edited_now : (c : Controllers) (name : List ℕ) (s : ℕ) (e : Edit) (at : ℕ) (next : worker.Known) (old new : Entry) (p : Copied) → (h : HasRecord c name s old) → HasStored c name s next new h.spawn → old.part ≡ Some p → new.part ≡ Some (edited_part e at p) → worker.IsKeptPart old p → is_structural e ≡ false → refusal_of_part e p ≡ None
+pub edited_now : (c : Controllers) (name : List ℕ) (s : ℕ) (e : Edit) (at : ℕ) (next : worker.State) (old new : Entry) (p : PartCopy) → (h : HasRecord c name s old) → HasStored c name s next new h.spawn → old.part ≡ Some p → new.part ≡ Some (edited_part e at p) → worker.IsKeptPart old p → is_structural e ≡ false → refusal_of_part e p ≡ None
     → is_held_by s (master.holder c.master) (target e) ≡ true → (x : List ℕ) → now_shown (with_next c name next) x ≡ plain_rows e at (now_shown c) x
 edited_now c name s e at next old new p h stored has is kept plain free held x =
     let now = λ (r : Option Row). cond (bytes_eq (target e) x) (option_map (plain_changed e at) r) r in
@@ -206,13 +206,13 @@ same_phase recorded.Out old new is = ap stage_shown is
 same_phase recorded.Merged old new is = ap (λ stage. cond (worker.is_closed_stage stage) shop.Closed shop.Merged) is
 same_phase recorded.Withdrawn old new is = refl
 
-edit_agrees : (w : State) (v : worker.Known) (s : ℕ) (e : Edit) (at : ℕ) → IsKept w → worker_of w.controllers.workers v.name ≡ Some v → AgreesThere w v (order.Edit s e) at
+edit_agrees : (w : State) (v : worker.State) (s : ℕ) (e : Edit) (at : ℕ) → IsConsistent w → worker_of w.controllers.workers v.name ≡ Some v → AgreesThere w v (order.Edit s e) at
 edit_agrees w v s e at ok found x h has_entry taken =
     let c = w.controllers in
     let p = shop_shown c in
     let a = spawn_shown c h.spawn in
-    let moved = orders.ordered (order.Edit s e) at v in
-    let plain = steps.replies reply.Edited (worked e at p) in
+    let moved = orders.allowed_step (order.Edit s e) at v in
+    let plain = steps.quiet_step reply.Edited (after_work e at p) in
     agrees_as c v
     (unless_refused (orders.edit_refusal e x) v moved)
     (unless_refused (steps.work_refusal e a p) v moved)
@@ -245,5 +245,5 @@ edit_agrees w v s e at ok found x h has_entry taken =
       sent = refl;
     }))
 
-pub worker_edits : (w : State) (v : worker.Known) (s : ℕ) (e : Edit) (at : ℕ) → IsKept w → worker_of w.controllers.workers v.name ≡ Some v → Agrees (worker_moved w.controllers v (ordered_worker (order.Edit s e) at v)) (steps.worker_does v.name (order.Edit s e) at (shop_shown w.controllers))
+pub worker_edits : (w : State) (v : worker.State) (s : ℕ) (e : Edit) (at : ℕ) → IsConsistent w → worker_of w.controllers.workers v.name ≡ Some v → Agrees (worker_moved w.controllers v (ordered_worker (order.Edit s e) at v)) (steps.worker_does v.name (order.Edit s e) at (shop_shown w.controllers))
 worker_edits w v s e at ok found = worker_agrees w v (order.Edit s e) at ok found (edit_agrees w v s e at ok found)

@@ -9,13 +9,13 @@ use Rattle.ticket_items.specs.declared.refusal.Refusal.TheVariants.{NotOpen}
 use Rattle.ticket_rows.proofs.Reasons.{node_among}
 use Rattle.ticket_rows.specs.Ticket.{IsValid, Job, unless}
 use Rattle.ticket_tree.proofs.ById.{among_ids}
-use Rattle.ticket_tree.specs.Part.{Copied}
+use Rattle.ticket_tree.specs.Part.{PartCopy}
 use Rattle.ticket_tree.specs.PlainEdit.{plain_rows}
 use Rattle.controller.specs.declared.reply.Reply.TheVariants as reply
 use Rattle.spawn.proofs.GoodCopies.{good_node}
 use Rattle.spawn.proofs.RowsBelow.{rows_below-around}
 use Rattle.spawn.proofs.Split.{around}
-use Rattle.spawn.specs.Parts.{above, lifted, part_for}
+use Rattle.spawn.specs.Parts.{above, lifted_row, part_for}
 use Rattle.spawn.specs.Records.{IsGood, is_out}
 use Rattle.spawn.specs.declared.records.spawn_rec.SpawnRec.{SpawnRec}
 use Rattle.merge.specs.Shape.{Fits, Shape, shape}
@@ -38,10 +38,10 @@ use Rattle.world.proofs.WorkerAgrees.{AgreesThere, agrees_as, refused_or_agrees,
 use Rattle.world.proofs.WorkerEdits.{changed_stored, edited_now, kept_entry, open_has_part, open_out, open_shown, part_fits}
 use Rattle.world.specs.Controllers.{worker_of}
 use Rattle.world.specs.Shop as shop
-use Rattle.world.specs.ShopActs.{finished, in_phase, is_held_by}
+use Rattle.world.specs.ShopActs.{after_finish, in_phase, is_held_by}
 use Rattle.world.specs.ShopSteps as steps
 use Rattle.world.specs.Showing.{now_shown, phase_shown, shop_shown, spawn_shown, tag_of}
-use Rattle.world.specs.State.{IsKept, State}
+use Rattle.world.specs.State.{IsConsistent, State}
 use Rattle.controller.specs.Step.{unless_refused}
 use Rattle.worker_core.specs.Orders.{order_step as ordered_worker}
 use Rattle.world.specs.Stepping.{worker_moved}
@@ -53,16 +53,16 @@ first_id [] = refl
 first_id (r ∷ rows) = refl
 
 -- that of a part that fits is the one that was spawned
-pub root_spawned : (t : Job) (r : SpawnRec) (p : Copied) → IsValid t.rows → IsGood t.rows r → Fits t r p → worker.root_id p ≡ r.node
+pub root_spawned : (t : Job) (r : SpawnRec) (p : PartCopy) → IsValid t.rows → IsGood t.rows r → Fits t r p → worker.root_id p ≡ r.node
 root_spawned t r p valid good fits =
     let q = part_for t r in
     let at = around t.rows r.node valid (good_node t.rows r good) in
     sym (first_id p.rows) ∙ ap (λ ss. option_map_or (λ (s : Shape). s.id) (slice_get ss 0) []) fits.rows ∙ first_id q.rows
-    ∙ ap (λ rs. option_map_or (λ (y : NodeRow). y.id) (slice_get (map (lifted (length (above t.rows r.node))) rs) 0) []) (rows_below-around t.rows r.node valid at)
+    ∙ ap (λ rs. option_map_or (λ (y : NodeRow). y.id) (slice_get (map (lifted_row (length (above t.rows r.node))) rs) 0) []) (rows_below-around t.rows r.node valid at)
     ∙ at.named
 
 -- and the spawn holds it
-pub root_held : (m : master.Known) (s : ℕ) (r : SpawnRec) (e : Entry) (p : Copied) → master.IsKept m → master.record_of m.records s ≡ Some r → is_out r ≡ true → Fits m.ticket r p → worker.IsKeptPart e p → is_held_by s (master.holder m) (worker.root_id p) ≡ true
+pub root_held : (m : master.State) (s : ℕ) (r : SpawnRec) (e : Entry) (p : PartCopy) → master.IsConsistent m → master.record_of m.records s ≡ Some r → is_out r ≡ true → Fits m.ticket r p → worker.IsKeptPart e p → is_held_by s (master.holder m) (worker.root_id p) ≡ true
 root_held m s r e p ok found out fits kept =
     let x = worker.root_id p in
     let here : worker.has p x ≡ true = ap (λ b. b || mem x (resource_ids p.rw)) (among_ids x p.rows (node_among p.rows x (first_known p.rows p.rw p.ro kept.valid))) in
@@ -70,15 +70,15 @@ root_held m s r e p ok found out fits kept =
 
 -- ---- the step
 
-finish_agrees : (w : State) (v : worker.Known) (s : ℕ) (how : End) (at : ℕ) → IsKept w → worker_of w.controllers.workers v.name ≡ Some v → AgreesThere w v (order.Finish s how) at
+finish_agrees : (w : State) (v : worker.State) (s : ℕ) (how : End) (at : ℕ) → IsConsistent w → worker_of w.controllers.workers v.name ≡ Some v → AgreesThere w v (order.Finish s how) at
 finish_agrees w v s how at ok found x h has_entry taken =
     let c = w.controllers in
     let p = shop_shown c in
     let r = h.spawn in
     let a = spawn_shown c r in
     let new = orders.finished_entry how at x in
-    let moved = orders.ordered (order.Finish s how) at v in
-    let plain = steps.sends (reply.Finished s) (finished how at a p) (steps.Return s) in
+    let moved = orders.allowed_step (order.Finish s how) at v in
+    let plain = steps.sending_step (reply.Finished s) (after_finish how at a p) (steps.Return s) in
     let kept = kept_entry w v s x ok found has_entry in
     let shown = open_shown c v.name s x h ∙ sym (open_has_part x kept) in
     agrees_as c v
@@ -90,7 +90,7 @@ finish_agrees w v s how at ok found x h has_entry taken =
     refl
     (refused_or_agrees c v (unless (shop.is_open a.phase) NotOpen) moved plain found (λ none.
     let opened = open_free x (ap (λ b. unless b NotOpen) (sym shown) ∙ none) in
-    let q : Copied = opened.0 in
+    let q : PartCopy = opened.0 in
     let of = of_open x q opened.1 in
     let part = kept_part x q of.1 kept in
     let out = open_out c v.name s x h of.0 in
@@ -109,7 +109,7 @@ finish_agrees w v s how at ok found x h has_entry taken =
             job = refl;
             tree = refl;
             seen = λ y. refl;
-            now = λ y. edited_now c v.name s (orders.ending q how) at moved.next x new q h stored of.1 (ap (option_map (orders.ended_part how at)) of.1) part refl (ending_free q how part.valid) held y
+            now = λ y. edited_now c v.name s (orders.end_edit q how) at moved.next x new q h stored of.1 (ap (option_map (orders.ended_part how at)) of.1) part refl (ending_free q how part.valid) held y
                 ∙ ap (λ n. plain_rows (SetStatus n (worker.end_word how)) at (now_shown c) y) root;
             holder = λ y. refl;
             spawns = spawns_stored c v.name s moved.next new r shop.Done stored (ap (λ phase. phase_shown phase (Some new)) (phase_out r.phase out))
@@ -120,5 +120,5 @@ finish_agrees w v s how at ok found x h has_entry taken =
           ∙ ap (λ n. Some (steps.Return n)) (part.own ∙ h.own);
     }))
 
-pub worker_finishes : (w : State) (v : worker.Known) (s : ℕ) (how : End) (at : ℕ) → IsKept w → worker_of w.controllers.workers v.name ≡ Some v → Agrees (worker_moved w.controllers v (ordered_worker (order.Finish s how) at v)) (steps.worker_does v.name (order.Finish s how) at (shop_shown w.controllers))
+pub worker_finishes : (w : State) (v : worker.State) (s : ℕ) (how : End) (at : ℕ) → IsConsistent w → worker_of w.controllers.workers v.name ≡ Some v → Agrees (worker_moved w.controllers v (ordered_worker (order.Finish s how) at v)) (steps.worker_does v.name (order.Finish s how) at (shop_shown w.controllers))
 worker_finishes w v s how at ok found = worker_agrees w v (order.Finish s how) at ok found (finish_agrees w v s how at ok found)

@@ -4,7 +4,7 @@ use Rattle.std.specs.Option.{option_and_then, option_map}
 use Rattle.ticket_items.specs.declared.refusal.Refusal.{Refusal}
 use Rattle.ticket_items.specs.declared.refusal.Refusal.TheVariants.{Acknowledged, NotDone}
 use Rattle.ticket_rows.specs.Ticket.{first_of, unless}
-use Rattle.ticket_tree.specs.Part.{Copied}
+use Rattle.ticket_tree.specs.Part.{PartCopy}
 use Rattle.controller.specs.declared.reply.Reply.TheVariants as reply
 use Rattle.spawn.proofs.Outside.{some_of}
 use Rattle.spawn.specs.Records.{is_out}
@@ -25,7 +25,7 @@ use Rattle.world.specs.Controllers.{Controllers, worker_of}
 use Rattle.world.specs.Shop as shop
 use Rattle.world.specs.ShopSteps as steps
 use Rattle.world.specs.Showing.{phase_shown, shop_shown, spawn_shown, tag_of}
-use Rattle.world.specs.State.{IsKept, State}
+use Rattle.world.specs.State.{IsConsistent, State}
 use Rattle.controller.specs.Step.{unless_refused}
 use Rattle.worker_core.specs.Orders.{order_step as ordered_worker}
 use Rattle.world.specs.Stepping.{worker_moved}
@@ -63,14 +63,14 @@ closed_shown c name s e h kept taken =
 abbrev refusal_by : Bool → Bool → Option Refusal
 refusal_by is_open is_closed = first_of (unless (not is_open) NotDone ∷ unless (not is_closed) Acknowledged ∷ [])
 
-resend_agrees : (w : State) (v : worker.Known) (s at : ℕ) → IsKept w → worker_of w.controllers.workers v.name ≡ Some v → AgreesThere w v (order.Resend s) at
+resend_agrees : (w : State) (v : worker.State) (s at : ℕ) → IsConsistent w → worker_of w.controllers.workers v.name ≡ Some v → AgreesThere w v (order.Resend s) at
 resend_agrees w v s at ok found x h has_entry taken =
     let c = w.controllers in
     let p = shop_shown c in
     let a = spawn_shown c h.spawn in
     let kept = kept_entry w v s x ok found has_entry in
-    let moved = orders.ordered (order.Resend s) at v in
-    let plain = steps.sends (reply.Sent s) p (steps.Return s) in
+    let moved = orders.allowed_step (order.Resend s) at v in
+    let plain = steps.sending_step (reply.Sent s) p (steps.Return s) in
     let shown : steps.back_refusal a.phase ≡ orders.resend_refusal x =
     ap (λ b. refusal_by b (shop.is_closed a.phase)) (open_shown c v.name s x h) ∙ ap (refusal_by (worker.is_open x)) (closed_shown c v.name s x h kept taken) in
     agrees_as c v
@@ -83,7 +83,7 @@ resend_agrees w v s at ok found x h has_entry taken =
     (refused_or_agrees c v (steps.back_refusal a.phase) moved plain found (λ none.
     let done = done_free x (sym shown ∙ none) in
     let has = some_of x.part (kept.held ∙ keeps_done x done.0 done.1 taken) in
-    let q : Copied = has.0 in
+    let q : PartCopy = has.0 in
     record {
       reply = refl;
       next = worker_as_it_was c v found;
@@ -92,5 +92,5 @@ resend_agrees w v s at ok found x h has_entry taken =
           ∙ ap (λ n. Some (steps.Return n)) ((kept_part x q has.1 kept).own ∙ h.own);
     }))
 
-pub worker_resends : (w : State) (v : worker.Known) (s at : ℕ) → IsKept w → worker_of w.controllers.workers v.name ≡ Some v → Agrees (worker_moved w.controllers v (ordered_worker (order.Resend s) at v)) (steps.worker_does v.name (order.Resend s) at (shop_shown w.controllers))
+pub worker_resends : (w : State) (v : worker.State) (s at : ℕ) → IsConsistent w → worker_of w.controllers.workers v.name ≡ Some v → Agrees (worker_moved w.controllers v (ordered_worker (order.Resend s) at v)) (steps.worker_does v.name (order.Resend s) at (shop_shown w.controllers))
 worker_resends w v s at ok found = worker_agrees w v (order.Resend s) at ok found (resend_agrees w v s at ok found)

@@ -4,7 +4,7 @@ use Rattle.spawn.specs.declared.tables.holder.Holder.TheVariants.{Master, Spawn}
 use Rattle.master_core.specs.Master as master
 use Rattle.worker_core.specs.Worker as worker
 use Rattle.world.specs.Controllers.{worker_of}
-use Rattle.world.specs.Shop.{Open, Shop, spawn_of}
+use Rattle.world.specs.Shop.{Open, PlainState, spawn_of}
 use Rattle.world.specs.State.{State}
 
 -- who may change something: the master, or the worker of a name through its entry of a spawn
@@ -20,7 +20,7 @@ MayChange w (by_entry name s) x =
 
 -- whether one holds it in a shop: the master, or a spawn that went to the worker of the name and is
 -- open there
-abbrev pub Holds : Shop → Changer → List ℕ → Type 0
+abbrev pub Holds : PlainState → Changer → List ℕ → Type 0
 Holds p by_master x = p.holder x ≡ Some Master
 Holds p (by_entry name s) x =
     (p.holder x ≡ Some (Spawn s))

@@ -9,22 +9,22 @@ use Rattle.worker_core.specs.declared.entry.Entry.{Entry}
 
 -- the master and its workers, in the order in which it names them
 pub record Controllers : Type 0 where
-  pub master : master.Known
-  pub workers : List worker.Known
+  pub master : master.State
+  pub workers : List worker.State
 
-abbrev pub is_named : List ℕ → worker.Known → Bool
+abbrev pub is_named : List ℕ → worker.State → Bool
 is_named name w = bytes_eq w.name name
 
 -- the worker of a name
-abbrev pub worker_of : List worker.Known → List ℕ → Option worker.Known
+abbrev pub worker_of : List worker.State → List ℕ → Option worker.State
 worker_of workers name = find (is_named name) workers
 
 -- the workers, with the one of a name as it is next
-abbrev pub with_worker : List ℕ → worker.Known → List worker.Known → List worker.Known
+abbrev pub with_worker : List ℕ → worker.State → List worker.State → List worker.State
 with_worker name next workers = map (λ w. if is_named name w then next else w) workers
 
 -- the entry of a spawn at the worker of a name
-abbrev pub entry_at : List worker.Known → List ℕ → ℕ → Option Entry
+abbrev pub entry_at : List worker.State → List ℕ → ℕ → Option Entry
 entry_at workers name s =
     option_and_then (λ v. worker.entry_of v.entries s) (worker_of workers name)
 

@@ -7,9 +7,9 @@ use Rattle.ticket_items.specs.declared.refusal.Refusal.TheVariants.{UnknownWorke
 use Rattle.controller.specs.declared.message.Message.{Message}
 use Rattle.master_core.specs.declared.order.Order as master
 use Rattle.worker_core.specs.declared.order.Order as worker
-use Rattle.stored_state.specs.Cause.{caused}
-use Rattle.stored_state.specs.declared.cause.Cause.{Cause}
-use Rattle.stored_state.specs.declared.cause.Cause.TheVariants as causes
+use Rattle.stored_state.specs.Cause.{step_on}
+use Rattle.stored_state.specs.declared.cause.StepInput.{StepInput}
+use Rattle.stored_state.specs.declared.cause.StepInput.TheVariants as causes
 use Rattle.world.specs.Running as running
 use Rattle.world.specs.Running.{Machine}
 use Rattle.world.specs.State.{Controllers, State, is_controller, message_at, worker_of}
@@ -33,21 +33,21 @@ use Rattle.world_items.specs.declared.word.Word.TheVariants.{NoMessage, Refused,
 -- ---- one step
 
 -- the master's, of an order or of a message
-abbrev pub master_step : Cause master.Order → ℕ → State → StepOrWord Controllers Message
+abbrev pub master_step : StepInput master.Order → ℕ → State → StepOrWord Controllers Message
 master_step cause at w =
     Ok (master_moved w.controllers
-    (caused ordered_master taken_by_master cause at w.controllers.master))
+    (step_on ordered_master taken_by_master cause at w.controllers.master))
 
 -- the one of the worker of a name, if there is one, or else this word
-abbrev pub worker_step : List ℕ → Word → Cause worker.Order → ℕ → State
+abbrev pub worker_step : List ℕ → Word → StepInput worker.Order → ℕ → State
     → StepOrWord Controllers Message
 worker_step name none cause at w =
     option_map_or (λ v. Ok (worker_moved w.controllers v
-    (caused ordered_worker taken_by_worker cause at v)))
+    (step_on ordered_worker taken_by_worker cause at v)))
     (worker_of w.controllers.workers name) (Err none)
 
 -- a message that comes to the controller of a name was sent to it. It may be told anything
-abbrev pub ComesTo : {O : Type 0} → List ℕ → List Message → Cause O → Type 0
+abbrev pub ComesTo : {O : Type 0} → List ℕ → List Message → StepInput O → Type 0
 ComesTo name messages (causes.Order o) = ⊤
 ComesTo name messages (causes.Message m) = Contains messages m × (m.receiver ≡ name)
 
@@ -97,17 +97,17 @@ machine =
     }
 
 -- what is answered to a step, and what is there then
-abbrev pub settled_word : Stop → State → StepOrWord Controllers Message → Answer
-settled_word = running.settled_word machine
+abbrev pub next_answer : Stop → State → StepOrWord Controllers Message → Answer
+next_answer = running.next_answer machine
 
-abbrev pub settled : Stop → State → StepOrWord Controllers Message → State
-settled = running.settled machine
+abbrev pub next_state : Stop → State → StepOrWord Controllers Message → State
+next_state = running.next_state machine
 
 -- it isn't known how far a step came: its controller stopped before its state was stored, or before
 -- its message was sent
 abbrev pub IsUnknown : State → StepOrWord Controllers Message → State → Type 0
 IsUnknown old step new =
-    (new ≡ settled BeforeSave old step) ⊎ (new ≡ settled BeforeSend old step)
+    (new ≡ next_state BeforeSave old step) ⊎ (new ≡ next_state BeforeSend old step)
 
 -- the same of an event
 abbrev pub answer_to : Event → State → Answer

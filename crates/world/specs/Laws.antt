@@ -8,14 +8,14 @@ use Rattle.spawn.specs.Marking.{marks}
 use Rattle.world.specs.Changing.{Changer, Holds, MayChange}
 use Rattle.world.specs.Happening as happening
 use Rattle.world.specs.Happening.{after_all, answer_to, answers_to}
-use Rattle.world.specs.MergeAudits.{AreToldAbove}
+use Rattle.world.specs.MergeAudits.{MergeAuditsMatch}
 use Rattle.world.specs.Once.{AreMergedOnce, IsIn, TellsMerge}
 use Rattle.world.specs.Replay as replay
 use Rattle.world.specs.Running.{IsStopped, RunsAgree}
 use Rattle.world.specs.SeenTicket.{ticket_seen}
 use Rattle.world.specs.ShopMarks.{shop_marks}
 use Rattle.world.specs.Showing.{shop_shown, shows}
-use Rattle.world.specs.State.{Controllers, IsKept, State, message_at, opening}
+use Rattle.world.specs.State.{Controllers, IsConsistent, State, message_at, opening}
 use Rattle.world_items.specs.declared.answer.Answer.{Answer}
 use Rattle.world_items.specs.declared.event.Event.{Event}
 use Rattle.world_items.specs.declared.stop.Stop.TheVariants.{Run}
@@ -29,7 +29,7 @@ delivery k at = record { what = Deliver k; at = at; stop = Run }
 -- a message that was sent is taken by its receiver, whenever it comes
 abbrev pub SentIsTaken : Type 0
 SentIsTaken =
-    (w : State) (k at : ℕ) (m : Message) → IsKept w → message_at w.messages k ≡ Some m
+    (w : State) (k at : ℕ) (m : Message) → IsConsistent w → message_at w.messages k ≡ Some m
     → (reply : Reply) × ((answer_to (delivery k at) w).word ≡ Did reply)
 
 -- where a step of an event can't be saved, the state before it is held, or the one that it leads
@@ -37,7 +37,7 @@ SentIsTaken =
 -- is shown
 abbrev pub FailedSaveIsStop : Type 0
 FailedSaveIsStop =
-    (w : State) (e : Event) (step : Step Controllers Message) (held : Controllers) → IsKept w
+    (w : State) (e : Event) (step : Step Controllers Message) (held : Controllers) → IsConsistent w
     → happening.step_of e.what e.at w ≡ Ok step
     → (held ≡ w.controllers) ⊎ (held ≡ step.next)
     → let new : State = record { controllers = held; messages = w.messages } in
@@ -48,13 +48,13 @@ FailedSaveIsStop =
 -- no two may change one node or resource
 abbrev pub NoTwoMayChangeOne : Type 0
 NoTwoMayChangeOne =
-    (w : State) (c d : Changer) (x : List ℕ) → IsKept w → MayChange w c x → MayChange w d x → c ≡ d
+    (w : State) (c d : Changer) (x : List ℕ) → IsConsistent w → MayChange w c x → MayChange w d x → c ≡ d
 
 -- each may change exactly what it holds in the shop that is shown: the master, and a worker through
 -- a spawn to it that is open
 abbrev pub HoldersMayChange : Type 0
 HoldersMayChange =
-    (w : State) (c : Changer) (x : List ℕ) → IsKept w
+    (w : State) (c : Changer) (x : List ℕ) → IsConsistent w
     → MayChange w c x ↔ Holds (shop_shown w.controllers) c x
 
 -- ---- merged once
@@ -63,7 +63,7 @@ HoldersMayChange =
 -- and what is in stays in
 abbrev pub EachIsMergedOnce : Type 0
 EachIsMergedOnce =
-    (w : State) (events : List Event) → IsKept w
+    (w : State) (events : List Event) → IsConsistent w
     → AreMergedOnce (answers_to events w)
     × ((s i : ℕ) (a : Answer) → IsIn w s → slice_get (answers_to events w) i ≡ Some a
     → TellsMerge s a → ⊥)
@@ -74,15 +74,15 @@ EachIsMergedOnce =
 abbrev pub MergesAreTold : Type 0
 MergesAreTold =
     (name : List ℕ) (workers : List (List ℕ)) (ticket : Job) (events : List Event)
-    → IsKept (opening name workers ticket) → let first = replay.opening name workers ticket in
-    AreToldAbove ticket (replay.answers_to events first) (replay.after_all events first).shop
+    → IsConsistent (opening name workers ticket) → let first = replay.opening name workers ticket in
+    MergeAuditsMatch ticket (replay.answers_to events first) (replay.after_all events first).shop
 
 -- ---- one ticket with one table of holders
 
 -- what events in turn are answered with, and what is shown then, is their replay in the shop that
 -- is shown
 abbrev pub EventsAreReplayed : Type 0
-EventsAreReplayed = RunsAgree happening.machine replay.machine IsKept shows
+EventsAreReplayed = RunsAgree happening.machine replay.machine IsConsistent shows
 
 -- what is shown in the beginning
 abbrev pub OpeningIsShown : Type 0
@@ -93,11 +93,11 @@ OpeningIsShown =
 -- the ticket that is seen is the master's
 abbrev pub TicketIsSeen : Type 0
 TicketIsSeen =
-    (w : State) → IsKept w → ticket_seen (shop_shown w.controllers) ≡ w.controllers.master.ticket
+    (w : State) → IsConsistent w → ticket_seen (shop_shown w.controllers) ≡ w.controllers.master.ticket
 
 -- what that ticket shows of the spawns that are out is what the master shows
 abbrev pub MarksAreShown : Type 0
 MarksAreShown =
-    (w : State) → IsKept w
+    (w : State) → IsConsistent w
     → shop_marks (shop_shown w.controllers)
     ≡ marks w.controllers.master.ticket.rows w.controllers.master.records

@@ -10,7 +10,7 @@ use Rattle.ticket_rows.specs.Place.{Row, nodes_in, row_in, up}
 use Rattle.ticket_rows.specs.Ticket.{Job}
 use Rattle.controller.specs.declared.reply.Reply.{Reply}
 use Rattle.controller.specs.declared.reply.Reply.TheVariants.{Merged}
-use Rattle.world.specs.Shop.{Shop, spawn_of}
+use Rattle.world.specs.Shop.{PlainState, spawn_of}
 use Rattle.world_items.specs.declared.answer.Answer.{Answer}
 use Rattle.world_items.specs.declared.word.Word.{Word}
 use Rattle.world_items.specs.declared.word.Word.TheVariants.{Did}
@@ -40,19 +40,19 @@ audits_of row = option_map_or (λ r. r.audits) row []
 
 -- the audits of a row went on, and of those that came so many tell that the part of a spawn was put
 -- in
-abbrev pub GoOn : ℕ → ℕ → Option Row → Option Row → Type 0
-GoOn s times old new =
+abbrev pub AuditsGrow : ℕ → ℕ → Option Row → Option Row → Type 0
+AuditsGrow s times old new =
     (more : List Audit) × (audits_of new ≡ audits_of old ++ more)
     × (count_by (audit_tells s) more ≡ times)
 
 -- the node above the one that was spawned
-abbrev pub above_of : ℕ → Shop → Option (List ℕ)
+abbrev pub above_of : ℕ → PlainState → Option (List ℕ)
 above_of s p = option_and_then (λ a. up (nodes_in p.tree) a.node) (spawn_of s p)
 
 -- past the audits of the ticket in the beginning, those above a spawned node tell once that its
 -- part was put in if one of the answers does, and else never: as they are seen and as they are now
-abbrev pub AreToldAbove : Job → List Answer → Shop → Type 0
-AreToldAbove ticket answers p =
+abbrev pub MergeAuditsMatch : Job → List Answer → PlainState → Type 0
+MergeAuditsMatch ticket answers p =
     (s : ℕ) (u : List ℕ) → above_of s p ≡ Some u
     → let times : ℕ = if list_any (answer_tells s) answers then 1 else 0 in
-    GoOn s times (row_in ticket.rows u) (p.seen u) × GoOn s times (row_in ticket.rows u) (p.now u)
+    AuditsGrow s times (row_in ticket.rows u) (p.seen u) × AuditsGrow s times (row_in ticket.rows u) (p.now u)

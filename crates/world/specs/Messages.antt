@@ -21,7 +21,7 @@ use Rattle.master_core.specs.Messages as master_messages
 use Rattle.master_core.specs.Orders.{abort_of, submit_of}
 use Rattle.worker_core.specs.Messages as worker_messages
 use Rattle.worker_core.specs.Orders.{return_of}
-use Rattle.worker_core.specs.Worker.{Known, is_declined, is_ended, is_open, told_of_stage}
+use Rattle.worker_core.specs.Worker.{State, is_declined, is_ended, is_open, response_of_stage}
 use Rattle.worker_core.specs.declared.entry.Entry.{Entry}
 use Rattle.world.specs.Controllers.{Controllers, entry_at}
 
@@ -41,7 +41,7 @@ IsRecorded c name e =
     × (is_out r ≡ true → is_declined e ≡ false → IsSomeAnd e.part (Fits c.master.ticket r)))
 
 -- and so is each entry of a worker
-abbrev pub AreRecorded : Controllers → Known → Type 0
+abbrev pub AreRecorded : Controllers → State → Type 0
 AreRecorded c v = All (IsRecorded c v.name) v.entries
 
 -- ---- the way of a message
@@ -78,7 +78,7 @@ IsReturn name master m e = IfSome (return_of name master e) (λ n. m ≡ n)
 -- an answer to the command to give a spawn up tells how far its entry is: it isn't open, and so it
 -- tells the same from then on. Only of an entry that was declined does it tell of a refusal
 abbrev pub TellsEntry : Result QueueStatus ℕ → Entry → Type 0
-TellsEntry told e = (is_open e ≡ false) × (told ≡ told_of_stage e.phase)
+TellsEntry told e = (is_open e ≡ false) × (told ≡ response_of_stage e.phase)
 
 -- a message that sends a part out is, while its spawn is out, the one that the master makes of its
 -- ticket and the record; one that brings a part back is of an entry on which the work has ended,

@@ -8,9 +8,9 @@ use Rattle.ticket_rows.specs.Ticket.{Job}
 use Rattle.worker_core.specs.declared.order.Order as worker_order
 use Rattle.world.specs.Running as running
 use Rattle.world.specs.Running.{Machine}
-use Rattle.world.specs.Shop.{Shop}
+use Rattle.world.specs.Shop.{PlainState}
 use Rattle.world.specs.ShopActs as acts
-use Rattle.world.specs.ShopSteps.{Tag, master_does, message_comes, worker_does}
+use Rattle.world.specs.ShopSteps.{Tag, master_does, on_message, worker_does}
 use Rattle.world.specs.State.{message_at}
 use Rattle.world.specs.Step.{StepOrWord}
 use Rattle.world_items.specs.declared.answer.Answer.{Answer}
@@ -23,32 +23,32 @@ use Rattle.world_items.specs.declared.word.Word.{Word}
 use Rattle.world_items.specs.declared.word.Word.TheVariants.{NoMessage, Refused, Restarted}
 
 -- a shop, and the tags of the messages that were sent, in the order in which they went out
-pub record Shown : Type 0 where
-  pub shop : Shop
+pub record TaggedShop : Type 0 where
+  pub shop : PlainState
   pub tags : List Tag
 
 -- nothing was spawned, and nothing was sent
-abbrev pub opening : List ℕ → List (List ℕ) → Job → Shown
+abbrev pub opening : List ℕ → List (List ℕ) → Job → TaggedShop
 opening name workers ticket = record { shop = acts.opening name workers ticket; tags = [] }
 
 -- ---- one step
 
 -- the one of the worker of a name, if there is one
-abbrev pub worker_step : List ℕ → worker_order.Order → ℕ → Shop → StepOrWord Shop Tag
+abbrev pub worker_step : List ℕ → worker_order.Order → ℕ → PlainState → StepOrWord PlainState Tag
 worker_step name o at p =
     if mem name p.workers then Ok (worker_does name o at p) else Err (Refused UnknownWorker)
 
 -- that on the message of a number, if there is one
-abbrev pub delivery_step : ℕ → ℕ → Shown → StepOrWord Shop Tag
-delivery_step k at p = option_map_or (message_comes at p.shop) (message_at p.tags k) (Err NoMessage)
+abbrev pub delivery_step : ℕ → ℕ → TaggedShop → StepOrWord PlainState Tag
+delivery_step k at p = option_map_or (on_message at p.shop) (message_at p.tags k) (Err NoMessage)
 
 -- a restart is none
-abbrev pub restart_word : List ℕ → Shop → Word
+abbrev pub restart_word : List ℕ → PlainState → Word
 restart_word name p =
     if bytes_eq name p.master || mem name p.workers then Restarted else Refused UnknownWorker
 
 -- that of what happens
-abbrev pub step_of : What → ℕ → Shown → StepOrWord Shop Tag
+abbrev pub step_of : What → ℕ → TaggedShop → StepOrWord PlainState Tag
 step_of (MasterOrder o) at p = Ok (master_does o at p.shop)
 step_of (WorkerOrder name o) at p = worker_step name o at p.shop
 step_of (Deliver k) at p = delivery_step k at p
@@ -57,7 +57,7 @@ step_of (Restart name) at p = Err (restart_word name p.shop)
 -- ---- as they run
 
 -- the shop with its tags, as a machine
-abbrev pub machine : Machine Shown Shop Tag
+abbrev pub machine : Machine TaggedShop PlainState Tag
 machine =
     record {
       inner = λ p. p.shop;
@@ -67,22 +67,22 @@ machine =
     }
 
 -- what is answered to a step, and what is shown then
-abbrev pub settled_word : Stop → Shown → StepOrWord Shop Tag → Answer
-settled_word = running.settled_word machine
+abbrev pub next_answer : Stop → TaggedShop → StepOrWord PlainState Tag → Answer
+next_answer = running.next_answer machine
 
-abbrev pub settled : Stop → Shown → StepOrWord Shop Tag → Shown
-settled = running.settled machine
+abbrev pub next_state : Stop → TaggedShop → StepOrWord PlainState Tag → TaggedShop
+next_state = running.next_state machine
 
 -- the same of an event
-abbrev pub answer_to : Event → Shown → Answer
+abbrev pub answer_to : Event → TaggedShop → Answer
 answer_to = running.answer_to machine
 
-abbrev pub after : Event → Shown → Shown
+abbrev pub after : Event → TaggedShop → TaggedShop
 after = running.after machine
 
 -- and of events in turn
-abbrev pub answers_to : List Event → Shown → List Answer
+abbrev pub answers_to : List Event → TaggedShop → List Answer
 answers_to = running.answers_to machine
 
-abbrev pub after_all : List Event → Shown → Shown
+abbrev pub after_all : List Event → TaggedShop → TaggedShop
 after_all = running.after_all machine

@@ -2,8 +2,8 @@
 -- message. And when what one machine shows of itself runs as another.
 use Rattle.std.specs.Prelude.{◌≡◌, ◌⊎◌, ℕ, List, [], ◌∷◌, map, slice_get, take, Some, Ok, Err}
 use Rattle.std.specs.Option.{option_map}
-use Rattle.world.specs.Settling.{answer_without_step, settled_answer, settled_messages}
-use Rattle.world.specs.Settling.{settled_state}
+use Rattle.world.specs.Settling.{answer_left, answer_without_step, messages_left}
+use Rattle.world.specs.Settling.{state_left}
 use Rattle.controller.specs.Step.{Step}
 use Rattle.world_items.specs.Word.{word_of}
 use Rattle.world.specs.Step.{StepOrWord}
@@ -24,23 +24,23 @@ pub record Machine (W S M : Type 0) : Type 0 where
 -- ---- one event
 
 -- what is answered
-abbrev pub settled_word : {W S M : Type 0} → Machine W S M → Stop → W → StepOrWord S M → Answer
-settled_word m stop w (Ok moved) = settled_answer stop (m.sent w) (word_of moved.reply) moved.sent
-settled_word m stop w (Err word) = answer_without_step word
+abbrev pub next_answer : {W S M : Type 0} → Machine W S M → Stop → W → StepOrWord S M → Answer
+next_answer m stop w (Ok moved) = answer_left stop (m.sent w) (word_of moved.reply) moved.sent
+next_answer m stop w (Err word) = answer_without_step word
 
 -- what is there then
-abbrev pub settled : {W S M : Type 0} → Machine W S M → Stop → W → StepOrWord S M → W
-settled m stop w (Ok moved) =
-    m.made (settled_state stop (m.inner w) moved.next)
-    (settled_messages stop (m.sent w) moved.sent)
-settled m stop w (Err word) = w
+abbrev pub next_state : {W S M : Type 0} → Machine W S M → Stop → W → StepOrWord S M → W
+next_state m stop w (Ok moved) =
+    m.made (state_left stop (m.inner w) moved.next)
+    (messages_left stop (m.sent w) moved.sent)
+next_state m stop w (Err word) = w
 
 -- what an event is answered with, and what is there after it
 abbrev pub answer_to : {W S M : Type 0} → Machine W S M → Event → W → Answer
-answer_to m e w = settled_word m e.stop w (m.step_of e.what e.at w)
+answer_to m e w = next_answer m e.stop w (m.step_of e.what e.at w)
 
 abbrev pub after : {W S M : Type 0} → Machine W S M → Event → W → W
-after m e w = settled m e.stop w (m.step_of e.what e.at w)
+after m e w = next_state m e.stop w (m.step_of e.what e.at w)
 
 -- ---- a list of events
 

@@ -7,7 +7,7 @@ use Rattle.ticket_items.specs.declared.resource.Resource.{Resource}
 use Rattle.ticket_rows.specs.Place.{Place, Row, Thing, node, resource}
 use Rattle.ticket_rows.specs.Ticket.{Job}
 use Rattle.ticket_tree.specs.PlainEdit.{is_at}
-use Rattle.world.specs.Shop.{Rows, Shop}
+use Rattle.world.specs.Shop.{PlainState, Rows}
 
 -- a resource, from what no worker may change of it and what may change. A node is none
 abbrev pub as_resource : List ℕ → Thing → Row → Option Resource
@@ -49,5 +49,5 @@ abbrev pub nodes_told : List Place → Rows → List NodeRow
 nodes_told tree rows = filter_map (node_there tree rows) tree
 
 -- the ticket as the master sees it
-abbrev pub ticket_seen : Shop → Job
+abbrev pub ticket_seen : PlainState → Job
 ticket_seen p = record { job_id = p.job; rows = nodes_told p.tree p.seen }

@@ -22,20 +22,20 @@ answer_without_step word = record { word = word; number = None }
 
 -- what is answered: a lost step as `Stopped`, else the word of the step, with the number of its
 -- message if that is sent
-abbrev pub settled_answer : {M : Type 0} → Stop → List M → Word → Option M → Answer
-settled_answer Run messages word sent =
+abbrev pub answer_left : {M : Type 0} → Stop → List M → Word → Option M → Answer
+answer_left Run messages word sent =
     record { word = word; number = number_of messages sent }
-settled_answer BeforeSave messages word sent = answer_without_step Stopped
-settled_answer BeforeSend messages word sent = answer_without_step word
+answer_left BeforeSave messages word sent = answer_without_step Stopped
+answer_left BeforeSend messages word sent = answer_without_step word
 
 -- the state that is stored: the next, unless the step is lost
-abbrev pub settled_state : {S : Type 0} → Stop → S → S → S
-settled_state Run old next = next
-settled_state BeforeSave old next = old
-settled_state BeforeSend old next = next
+abbrev pub state_left : {S : Type 0} → Stop → S → S → S
+state_left Run old next = next
+state_left BeforeSave old next = old
+state_left BeforeSend old next = next
 
 -- the messages that were sent: also the step's, unless it or its message is lost
-abbrev pub settled_messages : {M : Type 0} → Stop → List M → Option M → List M
-settled_messages Run messages sent = with_sent messages sent
-settled_messages BeforeSave messages sent = messages
-settled_messages BeforeSend messages sent = messages
+abbrev pub messages_left : {M : Type 0} → Stop → List M → Option M → List M
+messages_left Run messages sent = with_sent messages sent
+messages_left BeforeSave messages sent = messages
+messages_left BeforeSend messages sent = messages

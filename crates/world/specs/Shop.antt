@@ -34,7 +34,7 @@ Holders = List ℕ → Option Holder
 
 -- one ticket with one table of holders. What stands in `seen` and in `now` stands in `tree`, so
 -- they differ in rows alone
-pub record Shop : Type 0 where
+pub record PlainState : Type 0 where
   -- the names of the controllers
   pub master : List ℕ
   pub workers : List (List ℕ)
@@ -52,7 +52,7 @@ pub record Shop : Type 0 where
 -- ---- spawns
 
 -- the number of the next spawn
-abbrev pub next_number : Shop → ℕ
+abbrev pub next_number : PlainState → ℕ
 next_number p = suc (length p.spawns)
 
 -- whether a spawn has the number
@@ -60,7 +60,7 @@ abbrev pub has_number : ℕ → SpawnState → Bool
 has_number s a = a.number == s
 
 -- the spawn of a number
-abbrev pub spawn_of : ℕ → Shop → Option SpawnState
+abbrev pub spawn_of : ℕ → PlainState → Option SpawnState
 spawn_of s p = find (has_number s) p.spawns
 
 -- ---- phases

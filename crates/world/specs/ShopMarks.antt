@@ -8,10 +8,10 @@ use Rattle.ticket_items.specs.declared.res_mark.ResMark.{ResMark}
 use Rattle.ticket_items.specs.declared.spawn_status.SpawnStatus.TheVariants.{SpawnedRO, SpawnedRW}
 use Rattle.ticket_rows.specs.Place.{Place, nodes_in, resources_in}
 use Rattle.spawn.specs.Claim.{ids_of, linked_ro}
-use Rattle.world.specs.Shop.{Shop, SpawnState, is_out}
+use Rattle.world.specs.Shop.{PlainState, SpawnState, is_out}
 
 -- the spawns whose part is still to be put in, or to be taken back
-abbrev pub spawns_out : Shop → List SpawnState
+abbrev pub spawns_out : PlainState → List SpawnState
 spawns_out p = filter (λ a. is_out a.phase) p.spawns
 
 -- whether a resource went along with a spawn to be changed; and whether it went along at all, which
@@ -24,7 +24,7 @@ takes tree x a = takes_rw x a || mem x (ids_of (linked_ro tree a.node a.rw))
 
 -- what a resource shows: the strongest of its copies that are out, and the numbers of the spawns
 -- with which they went, in their order
-abbrev pub shop_mark : Shop → List ℕ → ResMark
+abbrev pub shop_mark : PlainState → List ℕ → ResMark
 shop_mark p x =
     record {
       id = x;
@@ -33,7 +33,7 @@ shop_mark p x =
     }
 
 -- the nodes that are out, and the resources of which copies are, each in ticket order
-abbrev pub shop_marks : Shop → Marks
+abbrev pub shop_marks : PlainState → Marks
 shop_marks p =
     record {
       nodes =

@@ -30,11 +30,13 @@ use Rattle.worker_core.specs.Orders.{spawn_of_order}
 use Rattle.worker_core.specs.declared.end.End.TheVariants.{Aborted}
 use Rattle.worker_core.specs.declared.order.Order as worker_order
 use Rattle.worker_core.specs.declared.order.Order.TheVariants as to_worker
-use Rattle.world.specs.Shop.{Phase, Shop, SpawnState, has_number, is_away, is_closed, is_declined}
+use Rattle.world.specs.Shop.{Phase, PlainState, SpawnState, has_number, is_away, is_closed}
+use Rattle.world.specs.Shop.{is_declined}
 use Rattle.world.specs.Shop.{is_done, is_merged, is_open, is_out, is_taken, next_number, spawn_of}
-use Rattle.world.specs.ShopActs.{closed, declined, edited, finished, freed, is_held_by, merged}
-use Rattle.world.specs.ShopActs.{spawned, taken, worked}
-use Rattle.controller.specs.Step.{Step, refused, unless_refused}
+use Rattle.world.specs.ShopActs.{after_close, after_decline, after_edit, after_finish, after_merge}
+use Rattle.world.specs.ShopActs.{after_withdrawal, is_held_by}
+use Rattle.world.specs.ShopActs.{after_spawn, after_taking, after_work}
+use Rattle.controller.specs.Step.{Step, refused_step, unless_refused}
 use Rattle.world.specs.Step.{StepOrWord}
 use Rattle.world_items.specs.declared.word.Word.TheVariants.{NoMessage}
 
@@ -49,27 +51,27 @@ pub data Tag : Type 0 where
   ToAbort : ℕ → Tag
 
 -- a reply with nothing sent, and one with a message
-abbrev pub replies : Reply → Shop → Step Shop Tag
-replies reply next = record { reply = Ok reply; sent = None; next = next }
+abbrev pub quiet_step : Reply → PlainState → Step PlainState Tag
+quiet_step reply next = record { reply = Ok reply; sent = None; next = next }
 
-abbrev pub sends : Reply → Shop → Tag → Step Shop Tag
-sends reply next tag = record { reply = Ok reply; sent = Some tag; next = next }
+abbrev pub sending_step : Reply → PlainState → Tag → Step PlainState Tag
+sending_step reply next tag = record { reply = Ok reply; sent = Some tag; next = next }
 
 -- ---- the master
 
 -- why the master can't change what has an id, if it can't: a spawn holds it
-abbrev pub not_held : Shop → List ℕ → Option Refusal
+abbrev pub not_held : PlainState → List ℕ → Option Refusal
 not_held p x = option_map_or held_refusal (p.holder x) None
 
 -- why an edit of the master is refused, if it is
-abbrev pub edit_refusal : Edit → Shop → Option Refusal
+abbrev pub edit_refusal : Edit → PlainState → Option Refusal
 edit_refusal e p =
     first_of
     (unknown_refusal e (plain_lookups p.tree) ∷ not_held p (target e)
     ∷ later_refusal e (plain_lookups p.tree) ∷ [])
 
 -- why a spawn is refused, if it is: the order's resources are asked for as they are listed
-abbrev pub spawn_refusal : List ℕ → List ℕ → List (List ℕ) → Shop → Option Refusal
+abbrev pub spawn_refusal : List ℕ → List ℕ → List (List ℕ) → PlainState → Option Refusal
 spawn_refusal n worker rw p =
     first_of
     (unless (mem worker p.workers) UnknownWorker
@@ -82,20 +84,20 @@ spawn_refusal n worker rw p =
 
 -- why a part isn't sent once more, nor its worker asked to give it up, if it isn't: its spawn isn't
 -- out
-abbrev pub resend_refusal : ℕ → Shop → Option Refusal
+abbrev pub resend_refusal : ℕ → PlainState → Option Refusal
 resend_refusal s p = unless (option_map_or (λ a. is_out a.phase) (spawn_of s p) false) NotOut
 
 -- the master on an order
-abbrev pub master_does : master_order.Order → ℕ → Shop → Step Shop Tag
+abbrev pub master_does : master_order.Order → ℕ → PlainState → Step PlainState Tag
 master_does (to_master.Edit e) at p =
-    unless_refused (edit_refusal e p) p (replies reply.Edited (edited e at p))
+    unless_refused (edit_refusal e p) p (quiet_step reply.Edited (after_edit e at p))
 master_does (to_master.Spawn n worker rw) at p =
     unless_refused (spawn_refusal n worker rw p) p
-    (sends (reply.Spawned (next_number p)) (spawned n worker rw at p) (Submit (next_number p)))
+    (sending_step (reply.Spawned (next_number p)) (after_spawn n worker rw at p) (Submit (next_number p)))
 master_does (to_master.Resend s) at p =
-    unless_refused (resend_refusal s p) p (sends (reply.Sent s) p (Submit s))
+    unless_refused (resend_refusal s p) p (sending_step (reply.Sent s) p (Submit s))
 master_does (to_master.Withdraw s) at p =
-    unless_refused (resend_refusal s p) p (sends (reply.Asked s) p (Abort s))
+    unless_refused (resend_refusal s p) p (sending_step (reply.Asked s) p (Abort s))
 
 -- ---- a worker
 
@@ -104,18 +106,18 @@ abbrev pub is_taken_by : List ℕ → ℕ → SpawnState → Bool
 is_taken_by name s a = has_number s a && bytes_eq a.worker name && is_taken a.phase
 
 -- whether a spawn holds the target of an edit: a node where a node is meant, else a resource
-abbrev pub is_held : Edit → SpawnState → Shop → Bool
+abbrev pub is_held : Edit → SpawnState → PlainState → Bool
 is_held e a p =
     stands (if is_of_node e then nodes_in p.tree else resources_in p.tree) (target e)
     && is_held_by a.number p.holder (target e)
 
 -- whether the target of an edit is a resource of which the spawn has a copy to read
-abbrev pub is_to_read : Edit → SpawnState → Shop → Bool
+abbrev pub is_to_read : Edit → SpawnState → PlainState → Bool
 is_to_read e a p =
     not (is_of_node e) && mem (target e) (ids_of (linked_ro p.tree a.node a.rw))
 
 -- why an edit of a worker is refused, if it is
-abbrev pub work_refusal : Edit → SpawnState → Shop → Option Refusal
+abbrev pub work_refusal : Edit → SpawnState → PlainState → Option Refusal
 work_refusal e a p =
     first_of
     (unless (is_open a.phase) NotOpen ∷ unless (not (is_structural e)) NotForWorkers
@@ -129,75 +131,75 @@ back_refusal phase =
     (unless (not (is_open phase)) NotDone ∷ unless (not (is_closed phase)) Acknowledged ∷ [])
 
 -- the worker on an order about a spawn that it took
-abbrev pub spawn_worked : worker_order.Order → ℕ → Shop → SpawnState → Step Shop Tag
-spawn_worked (to_worker.Edit s e) at p a =
-    unless_refused (work_refusal e a p) p (replies reply.Edited (worked e at p))
-spawn_worked (to_worker.Finish s how) at p a =
+abbrev pub on_order : worker_order.Order → ℕ → PlainState → SpawnState → Step PlainState Tag
+on_order (to_worker.Edit s e) at p a =
+    unless_refused (work_refusal e a p) p (quiet_step reply.Edited (after_work e at p))
+on_order (to_worker.Finish s how) at p a =
     unless_refused (unless (is_open a.phase) NotOpen) p
-    (sends (reply.Finished s) (finished how at a p) (Return s))
-spawn_worked (to_worker.Resend s) at p a =
-    unless_refused (back_refusal a.phase) p (sends (reply.Sent s) p (Return s))
+    (sending_step (reply.Finished s) (after_finish how at a p) (Return s))
+on_order (to_worker.Resend s) at p a =
+    unless_refused (back_refusal a.phase) p (sending_step (reply.Sent s) p (Return s))
 
 -- the worker of a name on an order
-abbrev pub worker_does : List ℕ → worker_order.Order → ℕ → Shop → Step Shop Tag
+abbrev pub worker_does : List ℕ → worker_order.Order → ℕ → PlainState → Step PlainState Tag
 worker_does name o at p =
-    option_map_or (spawn_worked o at p) (find (is_taken_by name (spawn_of_order o)) p.spawns)
-    (refused UnknownEntry p)
+    option_map_or (on_order o at p) (find (is_taken_by name (spawn_of_order o)) p.spawns)
+    (refused_step UnknownEntry p)
 
 -- ---- a message
 
 -- what a command is taken as that came before: by a worker that took the part, or declined it
-abbrev pub again : SpawnState → Reply
-again a = if is_taken a.phase then reply.Again a.number else reply.Declined a.number
+abbrev pub repeat_reply : SpawnState → Reply
+repeat_reply a = if is_taken a.phase then reply.Again a.number else reply.Declined a.number
 
 -- a part comes to the worker: it is taken, or it was before, or it was declined
-abbrev pub submit_comes : Shop → SpawnState → Step Shop Tag
-submit_comes p a =
+abbrev pub on_submit : PlainState → SpawnState → Step PlainState Tag
+on_submit p a =
     if is_away a.phase
-    then sends (reply.Taken a.number) (taken a.number p) (ToSubmit a.number)
-    else sends (again a) p (ToSubmit a.number)
+    then sending_step (reply.Taken a.number) (after_taking a.number p) (ToSubmit a.number)
+    else sending_step (repeat_reply a) p (ToSubmit a.number)
 
 -- the worker is to give a spawn up: one that it hasn't taken it declines, and the work on one that
 -- is open ends
-abbrev pub abort_comes : ℕ → Shop → SpawnState → Step Shop Tag
-abort_comes at p a =
+abbrev pub on_abort : ℕ → PlainState → SpawnState → Step PlainState Tag
+on_abort at p a =
     if is_away a.phase
-    then sends (reply.Declined a.number) (declined a.number p) (ToAbort a.number)
+    then sending_step (reply.Declined a.number) (after_decline a.number p) (ToAbort a.number)
     else (if is_open a.phase
-    then sends (reply.Ended a.number) (finished Aborted at a p) (ToAbort a.number)
-    else sends (again a) p (ToAbort a.number))
+    then sending_step (reply.Ended a.number) (after_finish Aborted at a p) (ToAbort a.number)
+    else sending_step (repeat_reply a) p (ToAbort a.number))
 
 -- a part comes back to the master: it is put in, or it was before. None comes back that isn't
 -- finished; as if it was put in before
-abbrev pub return_comes : ℕ → Shop → SpawnState → Step Shop Tag
-return_comes at p a =
+abbrev pub on_return : ℕ → PlainState → SpawnState → Step PlainState Tag
+on_return at p a =
     if is_done a.phase
-    then sends (reply.Merged a.number) (merged at a p) (ToReturn a.number)
-    else sends (reply.Already a.number) p (ToReturn a.number)
+    then sending_step (reply.Merged a.number) (after_merge at a p) (ToReturn a.number)
+    else sending_step (reply.Already a.number) p (ToReturn a.number)
 
 -- the worker is told that a part came back: it gives up one that was put in. It isn't told so of
 -- another; as if it was told before
-abbrev pub back_acknowledged : Shop → SpawnState → Step Shop Tag
-back_acknowledged p a =
-    replies (reply.Acked a.number) (if is_merged a.phase then closed a.number p else p)
+abbrev pub on_return_answer : PlainState → SpawnState → Step PlainState Tag
+on_return_answer p a =
+    quiet_step (reply.Acked a.number) (if is_merged a.phase then after_close a.number p else p)
 
 -- the master is told what came of a spawn that was to be given up: it takes back one that was
 -- declined
-abbrev pub abort_answered : ℕ → Shop → SpawnState → Step Shop Tag
-abort_answered at p a =
+abbrev pub on_abort_answer : ℕ → PlainState → SpawnState → Step PlainState Tag
+on_abort_answer at p a =
     if is_declined a.phase
-    then replies (reply.Freed a.number) (freed at a p)
-    else replies (reply.Noted a.number) p
+    then quiet_step (reply.Freed a.number) (after_withdrawal at a p)
+    else quiet_step (reply.Noted a.number) p
 
 -- what comes of a spawn, by its number. No message tells of one that there isn't; as if none came
-abbrev pub comes_of : ℕ → Shop → (SpawnState → Step Shop Tag) → StepOrWord Shop Tag
-comes_of s p f = option_map_or (λ a. Ok (f a)) (spawn_of s p) (Err NoMessage)
+abbrev pub step_on_spawn : ℕ → PlainState → (SpawnState → Step PlainState Tag) → StepOrWord PlainState Tag
+step_on_spawn s p f = option_map_or (λ a. Ok (f a)) (spawn_of s p) (Err NoMessage)
 
 -- a message comes to its receiver
-abbrev pub message_comes : ℕ → Shop → Tag → StepOrWord Shop Tag
-message_comes at p (Submit s) = comes_of s p (submit_comes p)
-message_comes at p (Return s) = comes_of s p (return_comes at p)
-message_comes at p (Abort s) = comes_of s p (abort_comes at p)
-message_comes at p (ToSubmit s) = Ok (replies (reply.Noted s) p)
-message_comes at p (ToReturn s) = comes_of s p (back_acknowledged p)
-message_comes at p (ToAbort s) = comes_of s p (abort_answered at p)
+abbrev pub on_message : ℕ → PlainState → Tag → StepOrWord PlainState Tag
+on_message at p (Submit s) = step_on_spawn s p (on_submit p)
+on_message at p (Return s) = step_on_spawn s p (on_return at p)
+on_message at p (Abort s) = step_on_spawn s p (on_abort at p)
+on_message at p (ToSubmit s) = Ok (quiet_step (reply.Noted s) p)
+on_message at p (ToReturn s) = step_on_spawn s p (on_return_answer p)
+on_message at p (ToAbort s) = step_on_spawn s p (on_abort_answer at p)

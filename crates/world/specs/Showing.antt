@@ -2,7 +2,7 @@
 use Rattle.std.specs.Prelude.{ℕ, List, map, if◌then◌else◌, Option, Some, None}
 use Rattle.std.specs.Option.{option_and_then, option_map_or}
 use Rattle.ticket_rows.specs.Place.{Row, places, row_in}
-use Rattle.ticket_tree.specs.Part.{Copied}
+use Rattle.ticket_tree.specs.Part.{PartCopy}
 use Rattle.ticket_tree.specs.PartView.{part_row}
 use Rattle.controller.specs.declared.body.Body.{Body}
 use Rattle.controller.specs.declared.body.Body.TheVariants as body
@@ -18,8 +18,8 @@ use Rattle.worker_core.specs.Worker as worker
 use Rattle.worker_core.specs.declared.entry.Entry.{Entry}
 use Rattle.world.specs.Controllers.{Controllers}
 use Rattle.world.specs.Messages.{entry_for}
-use Rattle.world.specs.Replay.{Shown}
-use Rattle.world.specs.Shop.{Away, Closed, Declined, Done, Merged, Open, Phase, Rows, Shop}
+use Rattle.world.specs.Replay.{TaggedShop}
+use Rattle.world.specs.Shop.{Away, Closed, Declined, Done, Merged, Open, Phase, PlainState, Rows}
 use Rattle.world.specs.Shop.{SpawnState, Withdrawn}
 use Rattle.world.specs.ShopSteps.{Abort, Return, Submit, Tag, ToAbort, ToReturn, ToSubmit}
 use Rattle.world.specs.State.{State}
@@ -61,7 +61,7 @@ abbrev pub seen_shown : Controllers → Rows
 seen_shown c = row_in c.master.ticket.rows
 
 -- the part in it, until that is given up
-abbrev pub part_of_spawn : Controllers → ℕ → Option Copied
+abbrev pub part_of_spawn : Controllers → ℕ → Option PartCopy
 part_of_spawn c s = option_and_then (λ e. e.part) (entry_of_spawn c s)
 
 -- the row of an id as its holder has it: where a spawn holds it that its worker took, as it is in
@@ -77,7 +77,7 @@ now_shown c x = row_at c x (master.holder c.master x)
 
 -- ---- the whole
 
-abbrev pub shop_shown : Controllers → Shop
+abbrev pub shop_shown : Controllers → PlainState
 shop_shown c =
     record {
       master = c.master.name;
@@ -102,5 +102,5 @@ tag_in (body.Answer command.Abort s told) = ToAbort s
 abbrev pub tag_of : Message → Tag
 tag_of m = tag_in m.body
 
-abbrev pub shows : State → Shown
+abbrev pub shows : State → TaggedShop
 shows w = record { shop = shop_shown w.controllers; tags = map tag_of w.messages }

@@ -14,7 +14,7 @@ pub record State : Type 0 where
   pub controllers : Controllers
   pub messages : List Message
 
-abbrev pub state : master.Known → List worker.Known → List Message → State
+abbrev pub state : master.State → List worker.State → List Message → State
 state m workers messages =
     record {
       controllers = record { master = m; workers = workers };
@@ -31,13 +31,13 @@ message_at messages (suc k) = slice_get messages k
 -- ---- in the beginning
 
 -- the worker of a name as it is in the beginning
-abbrev pub new_worker : List ℕ → List ℕ → worker.Known
-new_worker master_name name = worker.known name master_name []
+abbrev pub new_worker : List ℕ → List ℕ → worker.State
+new_worker master_name name = worker.state name master_name []
 
 -- nothing is out, and nothing was sent
 abbrev pub opening : List ℕ → List (List ℕ) → Job → State
 opening name workers ticket =
-    state (master.known name workers ticket []) (map (new_worker name) workers) []
+    state (master.state name workers ticket []) (map (new_worker name) workers) []
 
 -- ---- what always holds
 
@@ -45,11 +45,11 @@ opening name workers ticket =
 -- as its master, and each one's entries are in order and are of spawns that have records; the
 -- messages are in order; and what was put in the master's ticket is finished at its worker, and
 -- what was withdrawn is declined there
-pub record IsKept (w : State) : Type 0 where
-  pub master : master.IsKept w.controllers.master
+pub record IsConsistent (w : State) : Type 0 where
+  pub master : master.IsConsistent w.controllers.master
   pub named : map (λ v. v.name) w.controllers.workers ≡ w.controllers.master.workers
   pub known : All (λ v. v.master ≡ w.controllers.master.name) w.controllers.workers
-  pub workers : All worker.IsKept w.controllers.workers
+  pub workers : All worker.IsConsistent w.controllers.workers
   pub recorded : All (AreRecorded w.controllers) w.controllers.workers
   pub messages : AreInOrder w.controllers w.messages
   pub back : All (HasComeBack w.controllers) w.controllers.master.records

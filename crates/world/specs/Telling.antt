@@ -12,17 +12,17 @@ use Rattle.spawn.specs.declared.records.spawn_rec.SpawnRec.{SpawnRec}
 use Rattle.spawn.specs.declared.tables.holder.Holder.TheVariants.{Spawn}
 use Rattle.master_core.specs.Master.{record_of}
 use Rattle.world.specs.SeenTicket.{ticket_seen}
-use Rattle.world.specs.Shop.{Rows, Shop}
+use Rattle.world.specs.Shop.{PlainState, Rows}
 use Rattle.world.specs.Showing.{shop_shown}
 use Rattle.world.specs.State.{State}
 
 -- what a spawn holds has in a part the rows that it has there
-abbrev pub HasHeld : Shop → ℕ → Rows → Rows → Type 0
+abbrev pub HasHeld : PlainState → ℕ → Rows → Rows → Type 0
 HasHeld p s part rows = (x : List ℕ) → p.holder x ≡ Some (Spawn s) → part x ≡ rows x
 
 -- what goes out with a spawn is the part of the ticket as it is seen, with the record's copies to
 -- read: what the spawn holds is in it as it is seen. In what comes back it is as it is now
-abbrev pub TellsOf : Shop → SpawnRec → Body → Type 0
+abbrev pub TellsOf : PlainState → SpawnRec → Body → Type 0
 TellsOf p r (Submit part) =
     (part ≡ part_for (ticket_seen p) r) × HasHeld p r.id (part_row part) p.seen
 TellsOf p r (Return part) = HasHeld p r.id (part_row part) p.now

@@ -1,5 +1,5 @@
 use crate::carrier::{Carrier, Direct};
-use crate::sent::Sent;
+use crate::sent::SentMessages;
 use crate::stepping;
 use crate::workers::{place_of, seat_of};
 use controller::Message;
@@ -7,7 +7,7 @@ use jmf_message::decode;
 use master_core::Master;
 use std::alloc::Global;
 use std::marker::Model;
-use stored_state::{Cause, Refused, Seat};
+use stored_state::{Refused, Seat, StepInput};
 use ticket_tree::{Id, Refusal};
 use worker_core::Worker;
 use world_items::{Answer, Event, Stop, What, Word};
@@ -18,12 +18,12 @@ use world_items::{Answer, Event, Stop, What, Word};
 pub struct Seats<M: Seat<Master>, W: Seat<Worker>> {
     master: M,
     workers: Vec<W>,
-    messages: Sent,
+    messages: SentMessages,
 }
 
 impl<M: Seat<Master>, W: Seat<Worker>> Model for Seats<M, W> {
     ghost use Rattle.std.specs.Prelude.{map};
-    ghost use Rattle.world.specs.State.{IsKept, State, state};
+    ghost use Rattle.world.specs.State.{IsConsistent, State, state};
 
     ghost Value = { State };
 
@@ -31,7 +31,7 @@ impl<M: Seat<Master>, W: Seat<Worker>> Model for Seats<M, W> {
         state (M.kept a.master) (map W.kept a.workers.items) a.messages.messages };
 
     ghost invariant = { λ a.
-        IsKept (state (M.kept a.master) (map W.kept a.workers.items) a.messages.messages) };
+        IsConsistent (state (M.kept a.master) (map W.kept a.workers.items) a.messages.messages) };
 }
 
 impl<M: Seat<Master>, W: Seat<Worker>> Seats<M, W> {
@@ -47,7 +47,7 @@ impl<M: Seat<Master>, W: Seat<Worker>> Seats<M, W> {
     ghost use Rattle.world.specs.Running.{IsCutOff, IsStopped};
     ghost use Rattle.world.specs.Changing.{Changer, Holds, MayChange};
     ghost use Rattle.world.specs.Happening as happening;
-    ghost use Rattle.world.specs.MergeAudits.{AreToldAbove};
+    ghost use Rattle.world.specs.MergeAudits.{MergeAuditsMatch};
     ghost use Rattle.world.specs.Once.{AreMergedOnce};
     ghost use Rattle.world.specs.Replay as replay;
     ghost use Rattle.world.specs.SeenTicket.{ticket_seen};
@@ -61,13 +61,13 @@ impl<M: Seat<Master>, W: Seat<Worker>> Seats<M, W> {
     /// A master and its workers, each at its seat. Nothing was sent.
     pub fn new(alloc: Global, master: M, workers: Vec<W>) -> Seats<M, W>
         // Wants: controllers that are in order.
-        requires { state.IsKept (state.state (M.kept master) (map W.kept workers.items) []) }
+        requires { state.IsConsistent (state.state (M.kept master) (map W.kept workers.items) []) }
         ensures { result ≡ state.state (M.kept master) (map W.kept workers.items) [] }
     {
         Seats {
             master,
             workers,
-            messages: Sent::new(alloc),
+            messages: SentMessages::new(alloc),
         }
     }
 
@@ -116,7 +116,7 @@ impl<M: Seat<Master>, W: Seat<Worker>> Seats<M, W> {
     pub fn messages(&self) -> &[Vec<u8>]
         ensures messages { messages_in (map (λ t. t.items) result.now) ≡ self.now.messages }
         ensures texts { map (λ t. t.items) result.now ≡ map message_text self.now.messages }
-        ensures kept { state.IsKept self.now }
+        ensures kept { state.IsConsistent self.now }
         ensures told { AreTold self.now }
     {
         self.messages.texts()
@@ -128,20 +128,20 @@ impl<M: Seat<Master>, W: Seat<Worker>> Seats<M, W> {
         &mut self,
         carrier: &mut R,
         alloc: Global,
-        cause: Cause<master_core::Order>,
+        cause: StepInput<master_core::Order>,
         at: u64,
         stop: Stop,
     ) -> Result<Answer, Refused>
         requires { happening.ComesTo self.old.controllers.master.name self.old.messages cause }
         ensures answer { IfOk result (λ a. a
-            ≡ happening.settled_word stop self.old (happening.master_step cause at self.old)) }
+            ≡ happening.next_answer stop self.old (happening.master_step cause at self.old)) }
         ensures state { OnOk result (self.new
-            ≡ happening.settled stop self.old (happening.master_step cause at self.old)) }
+            ≡ happening.next_state stop self.old (happening.master_step cause at self.old)) }
         ensures err { OnErr result (happening.IsUnknown self.old
             (happening.master_step cause at self.old) self.new) }
         ensures sure { OnErr result (M.is_sure ≡ true → R.is_direct ≡ true
             → self.new ≡ self.old) }
-        ensures kept { state.IsKept self.old }
+        ensures kept { state.IsConsistent self.old }
     {
         stepping::steps(
             carrier,
@@ -163,7 +163,7 @@ impl<M: Seat<Master>, W: Seat<Worker>> Seats<M, W> {
         alloc: Global,
         place: Option<usize>,
         none: Word,
-        cause: Cause<worker_core::Order>,
+        cause: StepInput<worker_core::Order>,
         at: u64,
         stop: Stop,
     ) -> Result<Answer, Refused>
@@ -172,11 +172,11 @@ impl<M: Seat<Master>, W: Seat<Worker>> Seats<M, W> {
             × happening.ComesTo name self.old.messages cause }
         ensures answer { (name : List ℕ)
             → position (state.is_named name) self.old.controllers.workers ≡ place
-            → IfOk result (λ a. a ≡ happening.settled_word stop self.old
+            → IfOk result (λ a. a ≡ happening.next_answer stop self.old
             (happening.worker_step name none cause at self.old)) }
         ensures state { (name : List ℕ)
             → position (state.is_named name) self.old.controllers.workers ≡ place
-            → OnOk result (self.new ≡ happening.settled stop self.old
+            → OnOk result (self.new ≡ happening.next_state stop self.old
             (happening.worker_step name none cause at self.old)) }
         ensures err { (name : List ℕ)
             → position (state.is_named name) self.old.controllers.workers ≡ place
@@ -185,7 +185,7 @@ impl<M: Seat<Master>, W: Seat<Worker>> Seats<M, W> {
         ensures sure { OnErr result (W.is_sure ≡ true → R.is_direct ≡ true
             → self.new ≡ self.old) }
         ensures unmade { is_some place ≡ false → IsOk result }
-        ensures kept { state.IsKept self.old }
+        ensures kept { state.IsConsistent self.old }
     {
         match place {
             None => {
@@ -227,22 +227,22 @@ impl<M: Seat<Master>, W: Seat<Worker>> Seats<M, W> {
         stop: Stop,
     ) -> Result<Answer, Refused>
         ensures answer { IfOk result (λ a. a
-            ≡ happening.settled_word stop self.old (happening.delivery_step number at self.old)) }
+            ≡ happening.next_answer stop self.old (happening.delivery_step number at self.old)) }
         ensures state { OnOk result (self.new
-            ≡ happening.settled stop self.old (happening.delivery_step number at self.old)) }
+            ≡ happening.next_state stop self.old (happening.delivery_step number at self.old)) }
         ensures err { OnErr result (happening.IsUnknown self.old
             (happening.delivery_step number at self.old) self.new) }
         ensures sure { OnErr result (M.is_sure ≡ true → W.is_sure ≡ true → R.is_direct ≡ true
             → self.new ≡ self.old) }
         ensures unmade { happening.is_reached (happening.delivery_step number at self.old)
             ≡ false → IsOk result }
-        ensures kept { state.IsKept self.old }
+        ensures kept { state.IsConsistent self.old }
     {
         let Some(message) = self.carried(carrier, alloc, number)? else {
             return Ok(Answer::without_step(Word::NoMessage));
         };
         if message.receiver == *self.master.name() {
-            return self.tell_master(carrier, alloc, Cause::Message(message), at, stop);
+            return self.tell_master(carrier, alloc, StepInput::Message(message), at, stop);
         }
         let place = place_of(self.workers.as_slice(), &message.receiver);
         self.tell_worker(
@@ -250,7 +250,7 @@ impl<M: Seat<Master>, W: Seat<Worker>> Seats<M, W> {
             alloc,
             place,
             Word::NoMessage,
-            Cause::Message(message),
+            StepInput::Message(message),
             at,
             stop,
         )
@@ -264,7 +264,7 @@ impl<M: Seat<Master>, W: Seat<Worker>> Seats<M, W> {
         ensures err { OnErr result (self.new ≡ self.old) }
         ensures unmade { happening.is_reached (Err (happening.restart_word name.now self.old))
             ≡ false → IsOk result }
-        ensures kept { state.IsKept self.old }
+        ensures kept { state.IsConsistent self.old }
     {
         if name == self.master.name() {
             self.master.restart(alloc)?;
@@ -323,7 +323,7 @@ impl<M: Seat<Master>, W: Seat<Worker>> Seats<M, W> {
         let Event { what, at, stop } = event;
         match what {
             What::MasterOrder(order) => {
-                self.tell_master(&mut Direct, alloc, Cause::Order(order), at, stop)
+                self.tell_master(&mut Direct, alloc, StepInput::Order(order), at, stop)
             }
             What::WorkerOrder(name, order) => {
                 let place = place_of(self.workers.as_slice(), &name);
@@ -333,7 +333,7 @@ impl<M: Seat<Master>, W: Seat<Worker>> Seats<M, W> {
                     alloc,
                     place,
                     none,
-                    Cause::Order(order),
+                    StepInput::Order(order),
                     at,
                     stop,
                 )
@@ -377,12 +377,12 @@ impl<M: Seat<Master>, W: Seat<Worker>> Seats<M, W> {
         ensures once { IfOk result (λ answers. AreMergedOnce answers.items) }
         ensures merges { IfOk result (λ answers. (name : List ℕ) (workers : List (List ℕ))
             (ticket : Job) → self.old ≡ state.opening name workers ticket
-            → AreToldAbove ticket answers.items (shows self.new).shop) }
+            → MergeAuditsMatch ticket answers.items (shows self.new).shop) }
         ensures alone { (c d : Changer) (x : List ℕ)
             → MayChange self.new c x → MayChange self.new d x → c ≡ d }
         ensures held { (c : Changer) (x : List ℕ)
             → MayChange self.new c x ↔ Holds (shows self.new).shop c x }
-        ensures kept { state.IsKept self.old }
+        ensures kept { state.IsConsistent self.old }
     {
         // A shop is kept in order: that is known where a field is named.
         let _ = &self.messages;

@@ -10,7 +10,7 @@ use std::alloc::{AllocError, Global};
 use std::marker::Model;
 
 /// The text of a number, of which the first has the number 1.
-fn numbered(texts: &[Vec<u8>], number: u64) -> Option<&Vec<u8>>
+fn text_of_number(texts: &[Vec<u8>], number: u64) -> Option<&Vec<u8>>
     ensures { option_copied result ≡ state.message_at texts.now number }
 {
     match number.checked_sub(1) {
@@ -31,11 +31,11 @@ fn put(texts: &mut Vec<Vec<u8>>, text: Vec<u8>) -> u64
 
 /// Every message that was sent, in the order in which they went out, each as its text.
 #[derive(Drop)]
-pub struct Sent {
+pub struct SentMessages {
     texts: Vec<Vec<u8>>,
 }
 
-impl Model for Sent {
+impl Model for SentMessages {
     ghost use Rattle.std.specs.Prelude.{map, nat_lt, vec_capacity, vec_len};
     ghost use Rattle.std.specs.List.{All};
     ghost use Rattle.stored_state.specs.Message.{messages_in, IsMessageText};
@@ -51,12 +51,12 @@ impl Model for Sent {
     ghost invariant = { λ sent. All IsMessageText (map (λ t. t.items) sent.texts.items) };
 }
 
-impl Sent {
+impl SentMessages {
     /// None.
-    pub fn new(alloc: Global) -> Sent
+    pub fn new(alloc: Global) -> SentMessages
         ensures { result.messages ≡ [] }
     {
-        Sent {
+        SentMessages {
             texts: Vec::new(alloc),
         }
     }
@@ -76,7 +76,7 @@ impl Sent {
         ensures again { IfSome (state.message_at self.now.messages number)
             (λ m. IsDecodedAs (message_text m) (Ok m)) }
     {
-        numbered(self.texts.as_slice(), number)
+        text_of_number(self.texts.as_slice(), number)
     }
 
     /// Makes room for the text of one more message.

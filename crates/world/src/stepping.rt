@@ -4,42 +4,42 @@
 ghost use Rattle.std.specs.Prelude.{◌≡◌, Ok, true, IfOk, IfSome, OnErr, OnOk};
 ghost use Rattle.std.specs.Option.{option_map};
 ghost use Rattle.jmf_message.specs.Decoded.{IsDecodedAs};
-ghost use Rattle.stored_state.specs.Cause.{caused};
+ghost use Rattle.stored_state.specs.Cause.{step_on};
 ghost use Rattle.stored_state.specs.Message.{message_text};
 ghost use Rattle.stored_state.specs.Seat.{IsOldOrNext};
 ghost use Rattle.world_items.specs.Word.{word_of};
 ghost use Rattle.world.specs.Settling as settling;
 
 use crate::carrier::Carrier;
-use crate::sent::Sent;
+use crate::sent::SentMessages;
 use std::alloc::{AllocError, Global};
-use stored_state::{Cause, OrderBytes, Refused, Seat, Stored};
+use stored_state::{OrderBytes, Refused, Seat, StepInput, StoredController};
 use ticket_tree::Refusal;
 use world_items::{Answer, Stop, Word};
 
 /// A controller makes a step of what it is told, or of a message that was carried to it, and gives
 /// out what comes of it, which is sent once it was carried back. Where that fails it is as if the
 /// controller had stopped before.
-fn steps_on<R: Carrier, C: Stored, S: Seat<C>>(
+fn steps_on<R: Carrier, C: StoredController, S: Seat<C>>(
     carrier: &mut R,
     alloc: Global,
     seat: &mut S,
-    messages: &mut Sent,
-    cause: Cause<C::Order>,
+    messages: &mut SentMessages,
+    cause: StepInput<C::Order>,
     at: u64,
 ) -> Result<Answer, Refused>
     ensures answer { IfOk result (λ a. a ≡ record {
-      word = word_of (caused C.order_step C.take_step cause at (S.kept seat.old)).reply;
+      word = word_of (step_on C.order_step C.take_step cause at (S.kept seat.old)).reply;
       number = settling.number_of messages.old.messages
-          (caused C.order_step C.take_step cause at (S.kept seat.old)).sent;
+          (step_on C.order_step C.take_step cause at (S.kept seat.old)).sent;
     }) }
     ensures stored { OnOk result (S.kept seat.new
-        ≡ (caused C.order_step C.take_step cause at (S.kept seat.old)).next) }
+        ≡ (step_on C.order_step C.take_step cause at (S.kept seat.old)).next) }
     ensures messages { OnOk result (messages.new.messages
         ≡ settling.with_sent messages.old.messages
-        (caused C.order_step C.take_step cause at (S.kept seat.old)).sent) }
+        (step_on C.order_step C.take_step cause at (S.kept seat.old)).sent) }
     ensures err_stored { OnErr result (IsOldOrNext (S.kept seat.old)
-        (caused C.order_step C.take_step cause at (S.kept seat.old)) (S.kept seat.new)) }
+        (step_on C.order_step C.take_step cause at (S.kept seat.old)) (S.kept seat.new)) }
     ensures err_messages { OnErr result (messages.new.messages ≡ messages.old.messages) }
     ensures sure { OnErr result (S.is_sure ≡ true → R.is_direct ≡ true
         → S.kept seat.new ≡ S.kept seat.old) }
@@ -60,25 +60,25 @@ fn steps_on<R: Carrier, C: Stored, S: Seat<C>>(
 
 /// A controller is told to do something, or a message that was carried to it is handed over. Where
 /// that fails it is as if the controller had stopped in it.
-pub fn steps<R: Carrier, C: Stored, S: Seat<C>>(
+pub fn steps<R: Carrier, C: StoredController, S: Seat<C>>(
     carrier: &mut R,
     alloc: Global,
     seat: &mut S,
-    messages: &mut Sent,
-    cause: Cause<C::Order>,
+    messages: &mut SentMessages,
+    cause: StepInput<C::Order>,
     at: u64,
     stop: Stop,
 ) -> Result<Answer, Refused>
-    ensures answer { IfOk result (λ a. a ≡ settling.settled_answer stop messages.old.messages
-        (word_of (caused C.order_step C.take_step cause at (S.kept seat.old)).reply)
-        (caused C.order_step C.take_step cause at (S.kept seat.old)).sent) }
-    ensures stored { OnOk result (S.kept seat.new ≡ settling.settled_state stop (S.kept seat.old)
-        (caused C.order_step C.take_step cause at (S.kept seat.old)).next) }
+    ensures answer { IfOk result (λ a. a ≡ settling.answer_left stop messages.old.messages
+        (word_of (step_on C.order_step C.take_step cause at (S.kept seat.old)).reply)
+        (step_on C.order_step C.take_step cause at (S.kept seat.old)).sent) }
+    ensures stored { OnOk result (S.kept seat.new ≡ settling.state_left stop (S.kept seat.old)
+        (step_on C.order_step C.take_step cause at (S.kept seat.old)).next) }
     ensures messages { OnOk result (messages.new.messages
-        ≡ settling.settled_messages stop messages.old.messages
-        (caused C.order_step C.take_step cause at (S.kept seat.old)).sent) }
+        ≡ settling.messages_left stop messages.old.messages
+        (step_on C.order_step C.take_step cause at (S.kept seat.old)).sent) }
     ensures err_stored { OnErr result (IsOldOrNext (S.kept seat.old)
-        (caused C.order_step C.take_step cause at (S.kept seat.old)) (S.kept seat.new)) }
+        (step_on C.order_step C.take_step cause at (S.kept seat.old)) (S.kept seat.new)) }
     ensures err_messages { OnErr result (messages.new.messages ≡ messages.old.messages) }
     ensures sure { OnErr result (S.is_sure ≡ true → R.is_direct ≡ true
         → S.kept seat.new ≡ S.kept seat.old) }

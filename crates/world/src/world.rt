@@ -39,7 +39,7 @@ impl World {
     ghost use Rattle.stored_state.specs.Message.{message_text, messages_in};
     ghost use Rattle.world.specs.Changing.{Changer, Holds, MayChange};
     ghost use Rattle.world.specs.Happening as happening;
-    ghost use Rattle.world.specs.MergeAudits.{AreToldAbove};
+    ghost use Rattle.world.specs.MergeAudits.{MergeAuditsMatch};
     ghost use Rattle.world.specs.Once.{AreMergedOnce};
     ghost use Rattle.world.specs.Replay as replay;
     ghost use Rattle.world.specs.SeenTicket.{ticket_seen};
@@ -143,10 +143,10 @@ impl World {
         // however often, between the master and its worker.
         // Proved: A spawn is had back without its part only where its worker has declined it, and
         // its part is put in only where the work on it has ended.
-        ensures kept { state.IsKept self.now }
+        ensures kept { state.IsConsistent self.now }
         // Proved: While a spawn is out, its part goes out with what it holds as it is seen, and
         // comes back with it as it is now.
-        ensures told { AreTold self.now }
+        ensures tells { AreTold self.now }
     {
         self.seats.messages()
     }
@@ -170,7 +170,7 @@ impl World {
         ensures state { OnOk result (self.new ≡ happening.after event self.old) }
         ensures err { OnErr result (self.new ≡ self.old) }
         // Proved: What comes to no controller needs no memory.
-        ensures unmade { happening.reaches event self.old ≡ false → IsOk result }
+        ensures needs_no_memory { happening.reaches event self.old ≡ false → IsOk result }
         ensures alone { (c d : Changer) (x : List ℕ)
             → MayChange self.new c x → MayChange self.new d x → c ≡ d }
         ensures held { (c : Changer) (x : List ℕ)
@@ -218,7 +218,7 @@ impl World {
         // By `merges`; `laws::merges_are_told`.
         ensures merges { IfOk result (λ answers. (name : List ℕ) (workers : List (List ℕ))
             (ticket : Job) → self.old ≡ state.opening name workers ticket
-            → AreToldAbove ticket answers.items (shows self.new).shop) }
+            → MergeAuditsMatch ticket answers.items (shows self.new).shop) }
         // Proved: After any events no two may change one node or resource.
         // By `alone`; `World::step`: `alone`; `laws::no_two_may_change_one`.
         ensures alone { (c d : Changer) (x : List ℕ)

@@ -6,18 +6,18 @@ use Rattle.std.specs.List.{list_all}
 use Rattle.std.specs.Option.{ok_or, option_and_then, option_map, option_map_or}
 use Rattle.serde_json.specs.Data.{Data, Items, no_items, item}
 use Rattle.serde_json.specs.Find.{as_array, get}
-use Rattle.json_items.specs.Judged.{both_read, sound}
-use Rattle.json_items.specs.Listed.{each, list_form}
+use Rattle.json_items.specs.Validation.{both_read, checked_value}
+use Rattle.json_items.specs.Listed.{items_read, list_form}
 use Rattle.json_items.specs.TicketDraft.{RawTicket}
 use Rattle.json_items.proofs.ListLemmas.{Fails-weaker}
-use Rattle.json_source.specs.Read.{◌>>=◌, Fails, has_only, provided, text_under}
+use Rattle.json_source.specs.Read.{◌>>=◌, Fails, has_only, some_if, text_under}
 use Rattle.ticket_items.specs.declared.refusal.Refusal.{Refusal}
 use Rattle.ticket_items.specs.declared.refusal.Refusal.TheVariants.{Memory, NotProfile}
-use Rattle.controller_form.specs.Openings.ShopForm.{shop_draft, ticket_under, workers_under}
+use Rattle.controller_form.specs.Openings.ShopForm.{shop_form, ticket_under, workers_under}
 use Rattle.controller_form.specs.declared.openings.raw_shop.RawShop.{RawShop}
 use Rattle.world_items.specs.declared.event.Event.{Event}
 use Rattle.world_script.specs.EventForm.{event_form, event_in, event_runs}
-use Rattle.world_script.specs.Script.{RawScript, events_in, events_under, parts_in, read_in, runs_on, script_draft, script_fault, script_members, script_of}
+use Rattle.world_script.specs.Script.{RawScript, events_in, events_under, parts_in, runs_on, script_fault, script_form, script_in, script_members, script_of}
 use Rattle.world_script.specs.declared.script.Script.{Script}
 
 -- ---- the name of a master
@@ -32,8 +32,8 @@ master_of master (Some ws) (Some t) s h =
     let same : (record { master = master; workers = ws; ticket = t }) ≡ s = cc in
     sym (ap (λ x. x.master) same)
 
-named : (d : Data) (master : List ℕ) (s : RawShop) → text_under (codes "Master") d ≡ Some master → shop_draft d ≡ Some s → s.master ≡ master
-unfolding shop_draft
+named : (d : Data) (master : List ℕ) (s : RawShop) → text_under (codes "Master") d ≡ Some master → shop_form d ≡ Some s → s.master ≡ master
+unfolding shop_form
 named d master s is read = master_of master (workers_under d) (ticket_under d) s (sym (ap (λ m. shop_of_parts m (workers_under d) (ticket_under d)) is) ∙ read)
 
 abbrev with_events : Bool → Data → Option RawShop → Option (RawShop × List Event)
@@ -44,9 +44,9 @@ parts_at stops d master None is = refl
 parts_at stops d master (Some s) is = ap (λ m. events_in stops m d >>= λ es. Some (s, es)) (is s refl)
 
 -- the events are those of the shop's master
-pub parts_are : (stops : Bool) (d : Data) (master : List ℕ) → provided (has_only script_members d) ≡ Some tt → text_under (codes "Master") d ≡ Some master → parts_in stops d ≡ both_read (shop_draft d) (events_in stops master d)
+pub parts_are : (stops : Bool) (d : Data) (master : List ℕ) → some_if (has_only script_members d) ≡ Some tt → text_under (codes "Master") d ≡ Some master → parts_in stops d ≡ both_read (shop_form d) (events_in stops master d)
 parts_are stops d master only is =
-    ap (λ o. o >>= λ _. with_events stops d (shop_draft d)) only ∙ parts_at stops d master (shop_draft d) (λ s read. named d master s is read)
+    ap (λ o. o >>= λ _. with_events stops d (shop_form d)) only ∙ parts_at stops d master (shop_form d) (λ s read. named d master s is read)
 
 -- ---- what is found of the parts
 
@@ -58,44 +58,44 @@ none_behind : {X Y : Type 0} (o : Option X) (p : Option Y) → p ≡ None → bo
 none_behind None p absent = refl
 none_behind (Some x) p absent = ap (λ q. q >>= λ y. Some (x, y)) absent
 
-pub no_events : (stops : Bool) (d : Data) (master : List ℕ) (e : Refusal) → provided (has_only script_members d) ≡ Some tt → text_under (codes "Master") d ≡ Some master → Fails e (events_in stops master d) → Fails e (parts_in stops d)
+pub no_events : (stops : Bool) (d : Data) (master : List ℕ) (e : Refusal) → some_if (has_only script_members d) ≡ Some tt → text_under (codes "Master") d ≡ Some master → Fails e (events_in stops master d) → Fails e (parts_in stops d)
 no_events stops d master e only is fails =
-    Fails-weaker e (events_in stops master d) (parts_in stops d) (λ absent. parts_are stops d master only is ∙ none_behind (shop_draft d) (events_in stops master d) absent) fails
+    Fails-weaker e (events_in stops master d) (parts_in stops d) (λ absent. parts_are stops d master only is ∙ none_behind (shop_form d) (events_in stops master d) absent) fails
 
-no_shop : (stops : Bool) (d : Data) → text_under (codes "Master") d ≡ None → with_events stops d (shop_draft d) ≡ None
-unfolding shop_draft
+no_shop : (stops : Bool) (d : Data) → text_under (codes "Master") d ≡ None → with_events stops d (shop_form d) ≡ None
+unfolding shop_form
 no_shop stops d absent = ap (λ m. with_events stops d (shop_of_parts m (workers_under d) (ticket_under d))) absent
 
-pub no_master : (stops : Bool) (d : Data) (text : Option (Bor (List ℕ))) (e : Refusal) → provided (has_only script_members d) ≡ Some tt → Err e ≡ ok_or text NotProfile → option_map (λ s. s.now) text ≡ text_under (codes "Master") d → Fails e (parts_in stops d)
+pub no_master : (stops : Bool) (d : Data) (text : Option (Bor (List ℕ))) (e : Refusal) → some_if (has_only script_members d) ≡ Some tt → Err e ≡ ok_or text NotProfile → option_map (λ s. s.now) text ≡ text_under (codes "Master") d → Fails e (parts_in stops d)
 no_master stops d (Some s) e only is seen = absurd (cc is)
 no_master stops d None e only is seen =
     let same : NotProfile ≡ e = cc in
-    subst (λ f. Fails f (parts_in stops d)) same (ap (λ o. o >>= λ _. with_events stops d (shop_draft d)) only ∙ no_shop stops d (sym seen))
+    subst (λ f. Fails f (parts_in stops d)) same (ap (λ o. o >>= λ _. with_events stops d (shop_form d)) only ∙ no_shop stops d (sym seen))
 
 -- ---- stops
 
 -- events, if the controllers may stop at them
 abbrev passing : Bool → List Event → Option (List Event)
-passing stops es = provided (stops || list_all event_runs es) >>= λ _. Some es
+passing stops es = some_if (stops || list_all event_runs es) >>= λ _. Some es
 
 abbrev none : Option (List Event)
 none = None
 
-nothing_passes : (runs : Bool) → (provided runs >>= λ _. none) ≡ none
+nothing_passes : (runs : Bool) → (some_if runs >>= λ _. none) ≡ none
 nothing_passes true = refl
 nothing_passes false = refl
 
-after_one : (runs : Bool) (e : Event) (rest : Option (List Event)) → ((provided runs >>= λ _. Some e) >>= λ x. option_map (λ xs. x ∷ xs) rest) ≡ (provided runs >>= λ _. option_map (λ xs. e ∷ xs) rest)
+after_one : (runs : Bool) (e : Event) (rest : Option (List Event)) → ((some_if runs >>= λ _. Some e) >>= λ x. option_map (λ xs. x ∷ xs) rest) ≡ (some_if runs >>= λ _. option_map (λ xs. e ∷ xs) rest)
 after_one true e rest = refl
 after_one false e rest = refl
 
-both_pass : (one others : Bool) (e : Event) (es : List Event) → (provided one >>= λ _. option_map (λ xs. e ∷ xs) (provided others >>= λ _. Some es)) ≡ (provided (one && others) >>= λ _. Some (e ∷ es))
+both_pass : (one others : Bool) (e : Event) (es : List Event) → (some_if one >>= λ _. option_map (λ xs. e ∷ xs) (some_if others >>= λ _. Some es)) ≡ (some_if (one && others) >>= λ _. Some (e ∷ es))
 both_pass true true e es = refl
 both_pass true false e es = refl
 both_pass false others e es = refl
 
 one_more : (stops : Bool) (o : Option Event) (rest : Option (List Event))
-    → ((o >>= λ e. provided (stops || event_runs e) >>= λ _. Some e) >>= λ x. option_map (λ xs. x ∷ xs) (rest >>= passing stops)) ≡ ((o >>= λ x. option_map (λ xs. x ∷ xs) rest) >>= passing stops)
+    → ((o >>= λ e. some_if (stops || event_runs e) >>= λ _. Some e) >>= λ x. option_map (λ xs. x ∷ xs) (rest >>= passing stops)) ≡ ((o >>= λ x. option_map (λ xs. x ∷ xs) rest) >>= passing stops)
 one_more true None rest = refl
 one_more true (Some e) None = refl
 one_more true (Some e) (Some es) = refl
@@ -103,13 +103,13 @@ one_more false None rest = refl
 one_more false (Some e) None = after_one (event_runs e) e None ∙ nothing_passes (event_runs e)
 one_more false (Some e) (Some es) = after_one (event_runs e) e (passing false es) ∙ both_pass (event_runs e) (list_all event_runs es) e es
 
-each_in : (stops : Bool) (master : List ℕ) (ds : Items) → each (event_in stops master) ds ≡ (each (event_form master) ds >>= passing stops)
+each_in : (stops : Bool) (master : List ℕ) (ds : Items) → items_read (event_in stops master) ds ≡ (items_read (event_form master) ds >>= passing stops)
 each_in true master no_items = refl
 each_in false master no_items = refl
 each_in stops master (item d ds) =
-    ap (λ rest. event_in stops master d >>= λ x. option_map (λ xs. x ∷ xs) rest) (each_in stops master ds) ∙ one_more stops (event_form master d) (each (event_form master) ds)
+    ap (λ rest. event_in stops master d >>= λ x. option_map (λ xs. x ∷ xs) rest) (each_in stops master ds) ∙ one_more stops (event_form master d) (items_read (event_form master) ds)
 
-items_in : (stops : Bool) (master : List ℕ) (items : Option Items) → (items >>= each (event_in stops master)) ≡ ((items >>= each (event_form master)) >>= passing stops)
+items_in : (stops : Bool) (master : List ℕ) (items : Option Items) → (items >>= items_read (event_in stops master)) ≡ ((items >>= items_read (event_form master)) >>= passing stops)
 items_in stops master None = refl
 items_in stops master (Some ds) = each_in stops master ds
 
@@ -124,12 +124,12 @@ script p = record { shop = p.0; events = p.1 }
 
 -- a script, if its controllers may stop as they do
 abbrev running : Bool → RawScript → Option RawScript
-running stops s = provided (stops || runs_on s) >>= λ _. Some s
+running stops s = some_if (stops || runs_on s) >>= λ _. Some s
 
 abbrev pub draft_in : Bool → Data → Option RawScript
-draft_in stops d = script_draft d >>= running stops
+draft_in stops d = script_form d >>= running stops
 
-passes_so : (runs : Bool) (shop : RawShop) (es : List Event) → (provided runs >>= λ _. Some (script (shop, es))) ≡ option_map script ((provided runs >>= λ _. Some es) >>= λ fs. Some (shop, fs))
+passes_so : (runs : Bool) (shop : RawShop) (es : List Event) → (some_if runs >>= λ _. Some (script (shop, es))) ≡ option_map script ((some_if runs >>= λ _. Some es) >>= λ fs. Some (shop, fs))
 passes_so true shop es = refl
 passes_so false shop es = refl
 
@@ -146,17 +146,17 @@ in_turn stops d (Some u) (Some x) =
     ∙ ap (λ events. option_map script (events >>= λ es. Some (x, es))) (sym (list_in stops x.master (get (codes "Events") d)))
 
 pub made_of_parts : (stops : Bool) (d : Data) → draft_in stops d ≡ option_map script (parts_in stops d)
-unfolding script_draft
-made_of_parts stops d = in_turn stops d (provided (has_only script_members d)) (shop_draft d)
+unfolding script_form
+made_of_parts stops d = in_turn stops d (some_if (has_only script_members d)) (shop_form d)
 
 abbrev judged : RawScript → Result Script Refusal
-judged s = sound (script_fault s) (script_of s)
+judged s = checked_value (script_fault s) (script_of s)
 
 at_any : (draft : Option RawScript) → option_map_or judged draft (Err NotProfile) ≡ option_map_or judged (draft >>= running true) (Err NotProfile)
 at_any None = refl
 at_any (Some s) = refl
 
-runs_so : (runs : Bool) (s : RawScript) → (if runs then judged s else Err NotProfile) ≡ option_map_or judged (provided runs >>= λ _. Some s) (Err NotProfile)
+runs_so : (runs : Bool) (s : RawScript) → (if runs then judged s else Err NotProfile) ≡ option_map_or judged (some_if runs >>= λ _. Some s) (Err NotProfile)
 runs_so true s = refl
 runs_so false s = refl
 
@@ -165,12 +165,12 @@ at_none None = refl
 at_none (Some s) = runs_so (runs_on s) s
 
 -- what data is read as is what that draft is
-pub read_of_draft : (stops : Bool) (d : Data) → read_in stops d ≡ option_map_or judged (draft_in stops d) (Err NotProfile)
-read_of_draft true d = at_any (script_draft d)
-read_of_draft false d = at_none (script_draft d)
+pub read_of_draft : (stops : Bool) (d : Data) → script_in stops d ≡ option_map_or judged (draft_in stops d) (Err NotProfile)
+read_of_draft true d = at_any (script_form d)
+read_of_draft false d = at_none (script_form d)
 
 -- where no parts are read, neither is a script
-pub nothing_read : (stops : Bool) (d : Data) (e : Refusal) → Fails e (parts_in stops d) → (e ≡ Memory) ⊎ (read_in stops d ≡ Err e)
+pub nothing_read : (stops : Bool) (d : Data) (e : Refusal) → Fails e (parts_in stops d) → (e ≡ Memory) ⊎ (script_in stops d ≡ Err e)
 nothing_read stops d Memory fails = inl refl
 nothing_read stops d NotProfile fails = inr (read_of_draft stops d ∙ ap (λ o. option_map_or judged o (Err NotProfile)) (made_of_parts stops d ∙ ap (option_map script) fails))
 nothing_read stops d e fails = absurd fails

@@ -11,10 +11,10 @@ use Rattle.ticket_items.specs.declared.refusal.Refusal.{Refusal}
 use Rattle.ticket_items.specs.declared.refusal.Refusal.TheVariants.{BadId, BadText, DuplicateId}
 use Rattle.ticket_items.specs.declared.refusal.Refusal.TheVariants.{NotHeld, NotProfile, SameName}
 use Rattle.ticket_items.specs.declared.refusal.Refusal.TheVariants.{ReservedStatus, UnknownWorker}
-use Rattle.json_items.specs.TicketDraft.{own_row, ticket_draft}
-use Rattle.controller_form.specs.Openings.ShopForm.{shop_draft}
+use Rattle.json_items.specs.TicketDraft.{own_row, ticket_form}
+use Rattle.controller_form.specs.Openings.ShopForm.{shop_form}
 use Rattle.json_items.specs.TicketForm.{node_has_names, pools_have_names, row_has_texts}
-use Rattle.json_items.specs.Edits.{edit_draft, adding_draft, note_draft}
+use Rattle.json_items.specs.Edits.{adding_form, edit_form, note_form}
 use Rattle.controller.specs.declared.reply.Reply.TheVariants as reply
 use Rattle.master_core.specs.declared.order.Order.TheVariants as master
 use Rattle.worker_core.specs.declared.order.Order.TheVariants as worker
@@ -32,7 +32,7 @@ use Rattle.world_items.specs.declared.word.Word.TheVariants.{Did, Refused, Stopp
 use Rattle.world_script.specs.AnswerText.{answer_text}
 use Rattle.world_script.specs.EventForm.{event_form, what_form, order_form}
 use Rattle.world_script.specs.EventForm.{deliver_form, restart_form}
-use Rattle.world_script.specs.Script.{script_draft, script_read}
+use Rattle.world_script.specs.Script.{script_form, script_read}
 use Rattle.world_script.specs.declared.script.Script.{Script}
 
 -- ---- answers
@@ -146,7 +146,7 @@ abbrev press : List ℕ
 press = codes "\"press\""
 
 nothing_happens : read_as (text [] []) ≡ Some (Ok (script [] []))
-unfolding serde_json_on_literals script_draft shop_draft ticket_draft own_row node_has_names pools_have_names
+unfolding serde_json_on_literals script_form shop_form ticket_form own_row node_has_names pools_have_names
     row_has_texts
 nothing_happens = refl
 
@@ -158,7 +158,7 @@ order_to_each : read_as (text press (resend ++ codes "\"To\":\"mis\"},"
     (event (MasterOrder (master.Resend 1)) 1 Run
     ∷ event (WorkerOrder (codes "press") (worker.Resend 1)) 1 BeforeSave
     ∷ event (WorkerOrder (codes "fold") (worker.Resend 1)) 1 Run ∷ [])))
-unfolding serde_json_on_literals script_draft shop_draft ticket_draft own_row node_has_names pools_have_names
+unfolding serde_json_on_literals script_form shop_form ticket_form own_row node_has_names pools_have_names
     row_has_texts event_form what_form order_form master_form.master_order_form
     known_form worker_form.worker_order_form
 order_to_each = refl
@@ -171,7 +171,7 @@ delivery_and_restart : read_as (text press
     ≡ Some (Ok (script (codes "press" ∷ [])
     (event (Deliver 18446744073709551615) 0 BeforeSend
     ∷ event (Restart (codes "mis")) 2 Run ∷ [])))
-unfolding serde_json_on_literals script_draft shop_draft ticket_draft own_row node_has_names pools_have_names
+unfolding serde_json_on_literals script_form shop_form ticket_form own_row node_has_names pools_have_names
     row_has_texts event_form what_form deliver_form restart_form
 delivery_and_restart = refl
 
@@ -181,19 +181,19 @@ delivery_and_restart = refl
 unknown_member : read_as (text press
     (codes "{\"At\":1,\"By\":\"mis\",\"Event\":\"Restart\",\"To\":\"mis\"}"))
     ≡ Some (Err NotProfile)
-unfolding serde_json_on_literals script_draft shop_draft ticket_draft own_row event_form what_form
+unfolding serde_json_on_literals script_form shop_form ticket_form own_row event_form what_form
     restart_form
 unknown_member = refl
 
 unknown_stop : read_as (text press
     (codes "{\"At\":1,\"Event\":\"Restart\",\"Stop\":\"run\",\"To\":\"mis\"}"))
     ≡ Some (Err NotProfile)
-unfolding serde_json_on_literals script_draft shop_draft ticket_draft own_row event_form
+unfolding serde_json_on_literals script_form shop_form ticket_form own_row event_form
 unknown_stop = refl
 
 unknown_event : read_as (text press (codes "{\"At\":1,\"Event\":\"Stop\",\"To\":\"mis\"}"))
     ≡ Some (Err NotProfile)
-unfolding serde_json_on_literals script_draft shop_draft ticket_draft own_row event_form what_form
+unfolding serde_json_on_literals script_form shop_form ticket_form own_row event_form what_form
 unknown_event = refl
 
 -- a worker's order to the master
@@ -201,7 +201,7 @@ finish_to_master : read_as (text press
     (codes "{\"At\":1,\"Event\":\"Order\",\"Order\":{\"Order\":\"Finish\",\"SpawnID\":\"S1\","
     ++ codes "\"Status\":\"Completed\"},\"To\":\"mis\"}"))
     ≡ Some (Err NotProfile)
-unfolding serde_json_on_literals script_draft shop_draft ticket_draft own_row event_form what_form
+unfolding serde_json_on_literals script_form shop_form ticket_form own_row event_form what_form
     order_form master_form.master_order_form
 finish_to_master = refl
 
@@ -216,19 +216,19 @@ abbrev too_long : List ℕ
 too_long = replicate 1025 97
 
 long_note : read_as (text press (note too_long)) ≡ Some (Err BadText)
-unfolding serde_json_on_literals script_draft shop_draft ticket_draft own_row node_has_names pools_have_names
+unfolding serde_json_on_literals script_form shop_form ticket_form own_row node_has_names pools_have_names
     row_has_texts event_form what_form order_form master_form.master_order_form
-    master_form.edit_form edit_draft adding_draft note_draft
+    master_form.edit_form edit_form adding_form note_form
 long_note = refl
 
 -- a name that is none comes before it, also behind it
 name_before_text : read_as (text press
     (note too_long ++ codes ",{\"At\":2,\"Event\":\"Restart\",\"To\":\"0\"}"))
     ≡ Some (Err BadId)
-unfolding serde_json_on_literals script_draft shop_draft ticket_draft own_row node_has_names pools_have_names
+unfolding serde_json_on_literals script_form shop_form ticket_form own_row node_has_names pools_have_names
     row_has_texts event_form what_form order_form restart_form
-    master_form.master_order_form master_form.edit_form edit_draft
-    adding_draft note_draft
+    master_form.master_order_form master_form.edit_form edit_form
+    adding_form note_form
 name_before_text = refl
 
 -- a SpawnID that names no spawn
@@ -236,26 +236,26 @@ no_spawn : read_as (text press
     (codes "{\"At\":1,\"Event\":\"Order\",\"Order\":{\"Order\":\"Resend\",\"SpawnID\":\"S0\"},"
     ++ codes "\"To\":\"press\"}"))
     ≡ Some (Err BadId)
-unfolding serde_json_on_literals script_draft shop_draft ticket_draft own_row node_has_names pools_have_names
+unfolding serde_json_on_literals script_form shop_form ticket_form own_row node_has_names pools_have_names
     row_has_texts event_form what_form order_form worker_form.worker_order_form
     known_form
 no_spawn = refl
 
 -- a worker of the master's name, and two of one name
 worker_of_the_masters_name : read_as (text (codes "\"mis\"") []) ≡ Some (Err SameName)
-unfolding serde_json_on_literals script_draft shop_draft ticket_draft own_row node_has_names pools_have_names
+unfolding serde_json_on_literals script_form shop_form ticket_form own_row node_has_names pools_have_names
     row_has_texts
 worker_of_the_masters_name = refl
 
 two_workers_of_one_name : read_as (text (press ++ codes "," ++ press) []) ≡ Some (Err SameName)
-unfolding serde_json_on_literals script_draft shop_draft ticket_draft own_row node_has_names pools_have_names
+unfolding serde_json_on_literals script_form shop_form ticket_form own_row node_has_names pools_have_names
     row_has_texts
 two_workers_of_one_name = refl
 
 -- what is wrong with the ticket comes before it
 status_before_name : read_as (text_at (codes "Spawned") (codes "\"mis\"") [])
     ≡ Some (Err ReservedStatus)
-unfolding serde_json_on_literals script_draft shop_draft ticket_draft own_row node_has_names pools_have_names
+unfolding serde_json_on_literals script_form shop_form ticket_form own_row node_has_names pools_have_names
     row_has_texts
 status_before_name = refl
 

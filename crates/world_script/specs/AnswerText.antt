@@ -17,7 +17,7 @@ spawn_behind (Some s) = codes " " ++ spawn_text s
 
 -- a reply's word, and the spawn that it tells of
 abbrev pub reply_text : Reply → List ℕ
-reply_text reply = replies.word_of reply ++ spawn_behind (replies.spawn_told reply)
+reply_text reply = replies.word_of reply ++ spawn_behind (replies.spawn_of_reply reply)
 
 -- `Refused`, and a refusal's number and name
 abbrev pub refusal_words : ℕ → List ℕ → List ℕ

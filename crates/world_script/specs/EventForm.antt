@@ -7,7 +7,7 @@ use Rattle.std.specs.Str.{bytes_eq}
 use Rattle.serde_json.specs.Data.{Data}
 use Rattle.serde_json.specs.Find.{as_str, get}
 use Rattle.ticket_items.specs.Names.{is_name}
-use Rattle.json_source.specs.Read.{◌>>=◌, provided, has_only, number_under, text_under}
+use Rattle.json_source.specs.Read.{◌>>=◌, some_if, has_only, number_under, text_under}
 use Rattle.controller_form.specs.Orders.MasterForm as master_form
 use Rattle.controller_form.specs.Orders.WorkerForm as worker_form
 use Rattle.world_items.specs.declared.event.Event.{Event}
@@ -31,7 +31,7 @@ order_members = codes "At" ∷ codes "Event" ∷ codes "Order" ∷ codes "Stop" 
 -- a controller is told to do something
 unfoldable pub order_form : List ℕ → Data → Option What
 order_form master d = do
-  _ ← provided (has_only order_members d)
+  _ ← some_if (has_only order_members d)
   name ← text_under (codes "To") d
   order ← get (codes "Order") d
   order_to master name order
@@ -42,7 +42,7 @@ deliver_members = codes "At" ∷ codes "Deliver" ∷ codes "Event" ∷ codes "St
 -- a message is handed to its receiver
 unfoldable pub deliver_form : Data → Option What
 deliver_form d = do
-  _ ← provided (has_only deliver_members d)
+  _ ← some_if (has_only deliver_members d)
   number ← number_under (codes "Deliver") d
   Some (Deliver number)
 
@@ -52,7 +52,7 @@ restart_members = codes "At" ∷ codes "Event" ∷ codes "Stop" ∷ codes "To" �
 -- a controller stops, and is started again
 unfoldable pub restart_form : Data → Option What
 restart_form d = do
-  _ ← provided (has_only restart_members d)
+  _ ← some_if (has_only restart_members d)
   name ← text_under (codes "To") d
   Some (Restart name)
 
@@ -117,5 +117,5 @@ event_runs e = is_run e.stop
 abbrev pub event_in : Bool → List ℕ → Data → Option Event
 event_in stops master d = do
   e ← event_form master d
-  _ ← provided (stops || event_runs e)
+  _ ← some_if (stops || event_runs e)
   Some e

@@ -7,11 +7,11 @@ use Rattle.serde_json.specs.Data.{Data}
 use Rattle.serde_json.specs.Find.{get}
 use Rattle.ticket_items.specs.declared.refusal.Refusal.{Refusal}
 use Rattle.ticket_items.specs.declared.refusal.Refusal.TheVariants.{NotProfile}
-use Rattle.json_items.specs.Judged.{checked_fault, sound}
+use Rattle.json_items.specs.Validation.{checked_fault, checked_value}
 use Rattle.json_items.specs.Listed.{list_form}
 use Rattle.json_profile.specs.ReadAs as bytes
-use Rattle.json_source.specs.Read.{◌>>=◌, provided, has_only}
-use Rattle.controller_form.specs.Openings.ShopForm.{shop_draft, shop_fault, shop_has_names}
+use Rattle.json_source.specs.Read.{◌>>=◌, some_if, has_only}
+use Rattle.controller_form.specs.Openings.ShopForm.{shop_fault, shop_form, shop_has_names}
 use Rattle.controller_form.specs.Openings.ShopForm.{shop_has_texts}
 use Rattle.controller_form.specs.declared.openings.raw_shop.RawShop.{RawShop}
 use Rattle.world_items.specs.declared.event.Event.{Event}
@@ -36,13 +36,13 @@ script_members = codes "Events" ∷ codes "Master" ∷ codes "Ticket" ∷ codes 
 -- a shop, and the events in turn
 abbrev pub script_parts : Data → Option (RawShop × List Event)
 script_parts d = do
-  shop ← shop_draft d
+  shop ← shop_form d
   events ← events_under shop.master d
   Some (shop, events)
 
-unfoldable pub script_draft : Data → Option RawScript
-script_draft d = do
-  _ ← provided (has_only script_members d)
+unfoldable pub script_form : Data → Option RawScript
+script_form d = do
+  _ ← some_if (has_only script_members d)
   parts ← script_parts d
   Some (record { shop = parts.0; events = parts.1 })
 
@@ -53,8 +53,8 @@ events_in stops master d =
 
 abbrev pub parts_in : Bool → Data → Option (RawShop × List Event)
 parts_in stops d = do
-  _ ← provided (has_only script_members d)
-  shop ← shop_draft d
+  _ ← some_if (has_only script_members d)
+  shop ← shop_form d
   events ← events_in stops shop.master d
   Some (shop, events)
 
@@ -90,18 +90,18 @@ script_of s =
 -- the script that JSON data is, or its first refusal
 abbrev pub script_read : Data → Result Script Refusal
 script_read d =
-    option_map_or (λ s. sound (script_fault s) (script_of s)) (script_draft d) (Err NotProfile)
+    option_map_or (λ s. checked_value (script_fault s) (script_of s)) (script_form d) (Err NotProfile)
 
 -- the same, of a script in which no controller stops: a stop is refused by its form
 abbrev pub running_script_read : Data → Result Script Refusal
 running_script_read d =
-    option_map_or (λ s. if runs_on s then sound (script_fault s) (script_of s) else Err NotProfile)
-    (script_draft d) (Err NotProfile)
+    option_map_or (λ s. if runs_on s then checked_value (script_fault s) (script_of s) else Err NotProfile)
+    (script_form d) (Err NotProfile)
 
 -- the one or the other, where controllers may stop or not
-abbrev pub read_in : Bool → Data → Result Script Refusal
-read_in true d = script_read d
-read_in false d = running_script_read d
+abbrev pub script_in : Bool → Data → Result Script Refusal
+script_in true d = script_read d
+script_in false d = running_script_read d
 
 -- the bytes are JSON that is read so
 abbrev pub IsReadAs : List ℕ → Result Script Refusal → Type 0

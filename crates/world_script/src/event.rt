@@ -5,7 +5,7 @@ ghost use Rattle.world_script.specs.EventForm as forms;
 
 use crate::stop_word::stop_under;
 use crate::what::find_what;
-use json_items::{FormIn, Judged, number_under};
+use json_items::{FormIn, Validation, number_under};
 use json_source::Source;
 use std::alloc::Global;
 use ticket_tree::Refusal;
@@ -41,7 +41,7 @@ impl FormIn<InShop<'_>> for Event {
         alloc: Global,
         value: &S,
         shop: &InShop<'_>,
-    ) -> Result<Judged<Event>, Refusal> {
+    ) -> Result<Validation<Event>, Refusal> {
         let at = number_under(value, "At").ok_or(Refusal::NotProfile)?;
         let stop = stop_under(value).ok_or(Refusal::NotProfile)?;
         if !may_be(stop, shop.stops) {

@@ -2,16 +2,16 @@
 
 ghost use Rattle.std.specs.Prelude.{Ok, IfOk, IfErr};
 ghost use Rattle.std.specs.List.{list_all};
-ghost use Rattle.json_items.specs.Judged.{Answers, Reads, on_both};
+ghost use Rattle.json_items.specs.Validation.{Answers, Reads, on_both};
 ghost use Rattle.controller_form.specs.Openings.ShopForm.{shop_has_names, shop_has_texts};
 ghost use Rattle.world_script.specs.EventForm.{event_has_names, event_has_texts};
 ghost use Rattle.world_script.specs.Script.{IsReadAs, IsReadAsRunning, IsRefusalOf};
-ghost use Rattle.world_script.specs.Script.{IsRefusalOfRunning, parts_in, read_in};
+ghost use Rattle.world_script.specs.Script.{IsRefusalOfRunning, parts_in, script_in};
 
 use crate::event::InShop;
 use crate::script::Script;
 use controller_form::RawShop;
-use json_items::{Form, Judged, Raw, both, find_list_in, only, text_under};
+use json_items::{Form, Raw, Validation, check_members, find_list_in, text_under, zip};
 use json_source::{Scratch, Source, tree_of};
 use std::alloc::Global;
 use ticket_tree::{Items, Refusal};
@@ -23,21 +23,21 @@ fn find_parts<S: Source>(
     alloc: Global,
     value: &S,
     stops: bool,
-) -> Result<Judged<(RawShop, Items<Event>)>, Refusal>
+) -> Result<Validation<(RawShop, Items<Event>)>, Refusal>
     ensures { Reads (on_both shop_has_names (list_all event_has_names))
         (on_both shop_has_texts (list_all event_has_texts)) result
         (parts_in stops (S.content value.now)) }
 {
-    only(value, &["Events", "Master", "Ticket", "Workers"])?;
+    check_members(value, &["Events", "Master", "Ticket", "Workers"])?;
     let master = text_under(value, "Master").ok_or(Refusal::NotProfile)?;
     let shop = RawShop::find(alloc, value)?;
     let events = find_list_in(alloc, value, "Events", &InShop { master, stops })?;
-    Ok(both(shop, events))
+    Ok(zip(shop, events))
 }
 
 /// The script that a value is, in which controllers may stop or not, or its first refusal.
 fn script_in<S: Source>(alloc: Global, value: &S, stops: bool) -> Result<Script, Refusal>
-    ensures { Answers result (read_in stops (S.content value.now)) }
+    ensures { Answers result (script_in stops (S.content value.now)) }
 {
     let (shop, events) = find_parts(alloc, value, stops)??;
     let shop = shop.build(alloc)?;

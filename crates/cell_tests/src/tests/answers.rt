@@ -1,4 +1,4 @@
-use cells::Swapped;
+use cells::SwapResult;
 use etcd_wire::{NoAnswer, held_of, swapped_of};
 use std::test::Fail;
 
@@ -46,9 +46,9 @@ fn a_value_has_its_revision(rt: HostRuntime) -> Result<(), Fail> {
 #[test]
 fn a_swap_is_made_or_another_came_first(rt: HostRuntime) -> Result<(), Fail> {
     for (body, answer) in [
-        (MADE, Swapped::Made(3)),
-        (OTHER, Swapped::Other),
-        (ABSENT, Swapped::Other),
+        (MADE, SwapResult::Made(3)),
+        (OTHER, SwapResult::Other),
+        (ABSENT, SwapResult::Other),
     ] {
         assert_eq!(rt; swapped_of(rt.alloc(), 200, body.as_bytes())?, answer);
     }
@@ -71,7 +71,7 @@ fn nothing_else_tells_anything(rt: HostRuntime) -> Result<(), Fail> {
         (404, "404 page not found\n"),
     ] {
         let body = body.as_bytes();
-        assert_eq!(rt; swapped_of(rt.alloc(), status, body)?, Swapped::Unknown);
+        assert_eq!(rt; swapped_of(rt.alloc(), status, body)?, SwapResult::Unknown);
         assert_eq!(rt;
             held_of(rt.alloc(), status, body).err(),
             Some(NoAnswer::Unknown)

@@ -1,4 +1,4 @@
-use cells::{Cell, CellKeep, Deed, ScriptedCell, Step, Swapped, step_anew};
+use cells::{Cell, CellKeep, Deed, ScriptedCell, Step, SwapResult, step_anew};
 use keepers::{Keep, KeepFault};
 use std::alloc::{AllocError, Global};
 use std::test::Fail;
@@ -133,7 +133,7 @@ fn what_is_there_is_not_made_again(rt: HostRuntime) -> Result<(), Fail> {
 #[test]
 fn nothing_is_loaded_where_nothing_was_held(rt: HostRuntime) {
     let mut cell = ScriptedCell::new(rt.alloc(), Vec::new(rt.alloc()));
-    assert_eq!(rt; cell.swap(7, b"a"), Swapped::Other);
+    assert_eq!(rt; cell.swap(7, b"a"), SwapResult::Other);
     let mut keep = CellKeep::over(rt.alloc(), cell);
     assert_eq!(rt; keep.load().err(), Some(KeepFault::Failed));
 }

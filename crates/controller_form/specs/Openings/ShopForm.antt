@@ -9,7 +9,7 @@ use Rattle.ticket_items.specs.Ids.{are_distinct}
 use Rattle.ticket_items.specs.Names.{is_name}
 use Rattle.ticket_items.specs.declared.refusal.Refusal.{Refusal}
 use Rattle.ticket_items.specs.declared.refusal.Refusal.TheVariants.{SameName}
-use Rattle.json_items.specs.TicketDraft.{RawTicket, ticket_draft}
+use Rattle.json_items.specs.TicketDraft.{RawTicket, ticket_form as form_of_ticket}
 use Rattle.json_items.specs.TicketForm as ticket_form
 use Rattle.json_items.specs.Listed.{list_form}
 use Rattle.json_source.specs.Read.{◌>>=◌, text_under}
@@ -23,11 +23,11 @@ abbrev pub workers_under : Data → Option (List (List ℕ))
 workers_under d = option_and_then (list_form as_str) (get (codes "Workers") d)
 
 abbrev pub ticket_under : Data → Option RawTicket
-ticket_under d = option_and_then ticket_draft (get (codes "Ticket") d)
+ticket_under d = option_and_then form_of_ticket (get (codes "Ticket") d)
 
 -- a shop in an object that may have other members
-unfoldable pub shop_draft : Data → Option RawShop
-shop_draft d = do
+unfoldable pub shop_form : Data → Option RawShop
+shop_form d = do
   master ← text_under (codes "Master") d
   workers ← workers_under d
   ticket ← ticket_under d

@@ -4,7 +4,7 @@ use Rattle.std.specs.Option.{option_and_then}
 use Rattle.serde_json.specs.Data.{Data}
 use Rattle.serde_json.specs.Find.{get}
 use Rattle.json_items.specs.Spawns.{spawn_form}
-use Rattle.json_source.specs.Read.{◌>>=◌, provided, has_only}
+use Rattle.json_source.specs.Read.{◌>>=◌, some_if, has_only}
 
 -- the spawn that the text under a name names
 abbrev pub spawn_under : List ℕ → Data → Option ℕ
@@ -15,4 +15,4 @@ known_members = codes "Order" ∷ codes "SpawnID" ∷ []
 
 -- the spawn of an order that tells nothing else
 unfoldable pub known_form : Data → Option ℕ
-known_form d = provided (has_only known_members d) >>= λ _. spawn_under (codes "SpawnID") d
+known_form d = some_if (has_only known_members d) >>= λ _. spawn_under (codes "SpawnID") d

@@ -10,10 +10,10 @@ use Rattle.serde_json.specs.Find.{as_str, get}
 use Rattle.ticket_items.specs.Names.{is_name}
 use Rattle.ticket_items.specs.SpawnId.{is_spawn_number}
 use Rattle.ticket_items.specs.declared.refusal.Refusal.{Refusal}
-use Rattle.json_items.specs.Edits.{edit_draft, edit_has_names, edit_has_texts}
-use Rattle.json_items.specs.Judged.{first_fault, judged}
+use Rattle.json_items.specs.Edits.{edit_form as form_of_edit, edit_has_names, edit_has_texts}
+use Rattle.json_items.specs.Validation.{checked_draft, first_fault}
 use Rattle.json_items.specs.Listed.{list_form}
-use Rattle.json_source.specs.Read.{◌>>=◌, provided, has_only, text_under}
+use Rattle.json_source.specs.Read.{◌>>=◌, some_if, has_only, text_under}
 use Rattle.master_core.specs.declared.order.Order.{Order}
 use Rattle.master_core.specs.declared.order.Order.TheVariants.{Edit, Spawn, Resend, Withdraw}
 use Rattle.controller_form.specs.Orders.KnownSpawn.{known_form}
@@ -26,8 +26,8 @@ edit_members = codes "Edit" ∷ codes "Order" ∷ []
 -- to edit the ticket
 unfoldable pub edit_form : Data → Option Order
 edit_form d = do
-  _ ← provided (has_only edit_members d)
-  e ← option_and_then edit_draft (get (codes "Edit") d)
+  _ ← some_if (has_only edit_members d)
+  e ← option_and_then form_of_edit (get (codes "Edit") d)
   Some (Edit e)
 
 -- the list of texts under `RW`
@@ -40,7 +40,7 @@ spawn_members = codes "Node" ∷ codes "Order" ∷ codes "RW" ∷ codes "Worker"
 -- to send a node to a worker
 unfoldable pub spawn_form : Data → Option Order
 spawn_form d = do
-  _ ← provided (has_only spawn_members d)
+  _ ← some_if (has_only spawn_members d)
   node ← text_under (codes "Node") d
   worker ← text_under (codes "Worker") d
   copies ← copies_under d
@@ -74,4 +74,4 @@ order_has_texts (Withdraw s) = true
 
 -- the order that the data is, or its first refusal
 abbrev pub master_order_read : Data → Result Order Refusal
-master_order_read d = judged (first_fault order_has_names order_has_texts) (master_order_form d)
+master_order_read d = checked_draft (first_fault order_has_names order_has_texts) (master_order_form d)

@@ -8,9 +8,9 @@ use Rattle.serde_json.specs.Data.{Data}
 use Rattle.serde_json.specs.Find.{get}
 use Rattle.ticket_items.specs.SpawnId.{is_spawn_number}
 use Rattle.ticket_items.specs.declared.refusal.Refusal.{Refusal}
-use Rattle.json_items.specs.Edits.{edit_draft, edit_has_names, edit_has_texts}
-use Rattle.json_items.specs.Judged.{first_fault, judged}
-use Rattle.json_source.specs.Read.{◌>>=◌, provided, has_only, text_under}
+use Rattle.json_items.specs.Edits.{edit_form as form_of_edit, edit_has_names, edit_has_texts}
+use Rattle.json_items.specs.Validation.{checked_draft, first_fault}
+use Rattle.json_source.specs.Read.{◌>>=◌, some_if, has_only, text_under}
 use Rattle.worker_core.specs.declared.order.Order.{Order}
 use Rattle.worker_core.specs.declared.order.Order.TheVariants.{Edit, Finish, Resend}
 use Rattle.controller_form.specs.Orders.EndNamed.{end_named}
@@ -24,9 +24,9 @@ edit_members = codes "Edit" ∷ codes "Order" ∷ codes "SpawnID" ∷ []
 -- to edit the part of a spawn
 unfoldable pub edit_form : Data → Option Order
 edit_form d = do
-  _ ← provided (has_only edit_members d)
+  _ ← some_if (has_only edit_members d)
   s ← spawn_under (codes "SpawnID") d
-  e ← option_and_then edit_draft (get (codes "Edit") d)
+  e ← option_and_then form_of_edit (get (codes "Edit") d)
   Some (Edit s e)
 
 abbrev pub finish_members : List (List ℕ)
@@ -35,7 +35,7 @@ finish_members = codes "Order" ∷ codes "SpawnID" ∷ codes "Status" ∷ []
 -- to end the work on it
 unfoldable pub finish_form : Data → Option Order
 finish_form d = do
-  _ ← provided (has_only finish_members d)
+  _ ← some_if (has_only finish_members d)
   s ← spawn_under (codes "SpawnID") d
   word ← text_under (codes "Status") d
   end ← end_named word
@@ -65,4 +65,4 @@ order_has_texts (Resend s) = true
 
 -- the order that the data is, or its first refusal
 abbrev pub worker_order_read : Data → Result Order Refusal
-worker_order_read d = judged (first_fault order_has_names order_has_texts) (worker_order_form d)
+worker_order_read d = checked_draft (first_fault order_has_names order_has_texts) (worker_order_form d)

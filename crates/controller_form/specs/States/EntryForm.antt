@@ -8,10 +8,10 @@ use Rattle.serde_json.specs.Data.{Data, Members, no_members, number, unsigned, s
 use Rattle.serde_json.specs.Find.{get}
 use Rattle.ticket_items.specs.SpawnId.{is_spawn_number, spawn_text}
 use Rattle.ticket_items.specs.declared.refusal.Refusal.{Refusal}
-use Rattle.ticket_tree.specs.Part.{Copied}
-use Rattle.json_items.specs.PartDraft.{RawPart, part_draft}
+use Rattle.ticket_tree.specs.Part.{PartCopy}
+use Rattle.json_items.specs.PartDraft.{RawPart, part_form as form_of_part}
 use Rattle.json_items.specs.PartForm as part_form
-use Rattle.json_source.specs.Read.{◌>>=◌, provided, has_only, number_under, text_under}
+use Rattle.json_source.specs.Read.{◌>>=◌, some_if, has_only, number_under, text_under}
 use Rattle.json_text.specs.PartWritten.{part_data}
 use Rattle.worker_core.specs.Worker.{end_word}
 use Rattle.worker_core.specs.declared.end.End.{End}
@@ -45,18 +45,18 @@ spawn_told First part d = Some part.spawn
 spawn_told Second part d = spawn_under (codes "ID") d
 
 -- an entry with its part
-unfoldable pub held_draft : Format → Data → Option StoredEntry
-held_draft format d = do
-  _ ← provided (has_only (held_members format) d)
+unfoldable pub held_form : Format → Data → Option StoredEntry
+held_form format d = do
+  _ ← some_if (has_only (held_members format) d)
   at ← number_under (codes "At") d
   phase ← stage_under d
-  part ← option_and_then part_draft (get (codes "Part") d)
+  part ← option_and_then form_of_part (get (codes "Part") d)
   spawn ← spawn_told format part d
   Some (record { spawn = spawn; phase = phase; part = Some part; at = at })
 
 -- an entry of which there is no part, in this stage
-unfoldable pub partless_draft : Stage → Data → Option StoredEntry
-partless_draft phase d = do
+unfoldable pub partless_form : Stage → Data → Option StoredEntry
+partless_form phase d = do
   at ← number_under (codes "At") d
   spawn ← spawn_under (codes "ID") d
   Some (record { spawn = spawn; phase = phase; part = None; at = at })
@@ -69,29 +69,29 @@ abbrev pub end_under : Data → Option End
 end_under d = text_under (codes "End") d >>= end_named
 
 -- one whose part was given up
-unfoldable pub closed_draft : Data → Option StoredEntry
-closed_draft d = do
-  _ ← provided (has_only closed_members d)
+unfoldable pub closed_form : Data → Option StoredEntry
+closed_form d = do
+  _ ← some_if (has_only closed_members d)
   end ← end_under d
-  partless_draft (Closed end) d
+  partless_form (Closed end) d
 
 abbrev pub declined_members : List (List ℕ)
 declined_members = codes "At" ∷ codes "ID" ∷ codes "Phase" ∷ []
 
 -- one of a spawn that was declined
-unfoldable pub declined_draft : Data → Option StoredEntry
-declined_draft d = provided (has_only declined_members d) >>= λ _. partless_draft Declined d
+unfoldable pub declined_form : Data → Option StoredEntry
+declined_form d = some_if (has_only declined_members d) >>= λ _. partless_form Declined d
 
 -- whether data tells of a phase
 abbrev pub has_phase : List ℕ → Data → Bool
 has_phase word d = option_map_or (bytes_eq word) (text_under (codes "Phase") d) false
 
 -- an entry; the first format tells of no part that was given up, and of none that was declined
-unfoldable pub entry_draft : Format → Data → Option StoredEntry
-entry_draft First d = held_draft First d
-entry_draft Second d =
-    if has_phase (codes "Closed") d then closed_draft d
-    else (if has_phase (codes "Declined") d then declined_draft d else held_draft Second d)
+unfoldable pub entry_form : Format → Data → Option StoredEntry
+entry_form First d = held_form First d
+entry_form Second d =
+    if has_phase (codes "Closed") d then closed_form d
+    else (if has_phase (codes "Declined") d then declined_form d else held_form Second d)
 
 -- the entry of a draft
 abbrev pub entry_in : StoredEntry → Entry
@@ -99,7 +99,7 @@ entry_in e =
     record {
       spawn_id = e.spawn;
       phase = e.phase;
-      part = option_map part_form.copied e.part;
+      part = option_map part_form.part_of_raw e.part;
       at = e.at;
     }
 
@@ -136,7 +136,7 @@ with_end (Closed how) members = put (codes "End") (string (end_word how)) member
 with_end stage members = members
 
 -- members, and the part that there is
-abbrev pub with_part : Option Copied → Members → Members
+abbrev pub with_part : Option PartCopy → Members → Members
 with_part (Some p) members = put (codes "Part") (part_data p) members
 with_part None members = members
 

@@ -13,17 +13,17 @@ use Rattle.ticket_items.specs.declared.refusal.Refusal.TheVariants.{NotProfile, 
 use Rattle.ticket_rows.specs.Ticket.{first_of, unless}
 use Rattle.json_items.specs.TicketDraft.{RawTicket}
 use Rattle.json_items.specs.TicketForm as ticket_form
-use Rattle.json_items.specs.Judged.{checked_fault, sound}
+use Rattle.json_items.specs.Validation.{checked_fault, checked_value}
 use Rattle.json_items.specs.Listed.{data_items, list_form, texts_data}
-use Rattle.json_source.specs.Read.{◌>>=◌, provided, has_only, text_under}
+use Rattle.json_source.specs.Read.{◌>>=◌, some_if, has_only, text_under}
 use Rattle.json_text.specs.Written.{ticket_data}
-use Rattle.master_core.specs.Master.{Known, known}
+use Rattle.master_core.specs.Master.{State, state}
 use Rattle.master_core.specs.Stored.{is_master}
 use Rattle.controller_form.specs.Openings.ShopForm.{ticket_under, workers_under}
 use Rattle.controller_form.specs.States.RecordForm.{record_data, record_form}
 use Rattle.controller_form.specs.States.RecordForm.{record_has_names, record_has_texts}
-use Rattle.controller_form.specs.States.StateFormat.{controller_under, format_of, read_in}
-use Rattle.controller_form.specs.States.StateFormat.{state_data, written}
+use Rattle.controller_form.specs.States.StateFormat.{controller_under, format_of, read_in_format}
+use Rattle.controller_form.specs.States.StateFormat.{state_data, written_format}
 use Rattle.controller_form.specs.declared.states.format.Format.{Format}
 use Rattle.controller_form.specs.declared.states.stored_record.StoredRecord.{StoredRecord}
 
@@ -40,9 +40,9 @@ abbrev pub master_members : List (List ℕ)
 master_members = codes "Name" ∷ codes "Spawns" ∷ codes "Ticket" ∷ codes "Workers" ∷ []
 
 -- what data is in a format, which has to tell the phases of the records
-unfoldable pub master_draft : Format → Data → Option StoredMaster
-master_draft format d = do
-  _ ← provided (has_only master_members d)
+unfoldable pub master_form : Format → Data → Option StoredMaster
+master_form format d = do
+  _ ← some_if (has_only master_members d)
   name ← text_under (codes "Name") d
   workers ← workers_under d
   ticket ← ticket_under d
@@ -50,8 +50,8 @@ master_draft format d = do
   Some (record { name = name; workers = workers; ticket = ticket; records = records })
 
 -- the master of a draft
-abbrev pub master_in : StoredMaster → Known
-master_in m = known m.name m.workers m.ticket.job (map (λ r. r.spawn) m.records)
+abbrev pub master_in : StoredMaster → State
+master_in m = state m.name m.workers m.ticket.job (map (λ r. r.spawn) m.records)
 
 -- ---- faults
 
@@ -82,18 +82,18 @@ master_fault m = checked_fault (master_has_names m) (master_has_texts m) (master
 -- ---- what data is read as
 
 -- the master that a draft is, or its first refusal
-abbrev pub judged_master : Option StoredMaster → Result Known Refusal
+abbrev pub judged_master : Option StoredMaster → Result State Refusal
 judged_master draft =
-    option_map_or (λ m. sound (master_fault m) (master_in m)) draft (Err NotProfile)
+    option_map_or (λ m. checked_value (master_fault m) (master_in m)) draft (Err NotProfile)
 
 -- the master whose state the data is, or its first refusal
-abbrev pub master_state_read : Data → Result Known Refusal
-master_state_read d = read_in (format_of d) (λ format.
-    judged_master (option_and_then (master_draft format) (controller_under (codes "Master") d)))
+abbrev pub master_state_read : Data → Result State Refusal
+master_state_read d = read_in_format (format_of d) (λ format.
+    judged_master (option_and_then (master_form format) (controller_under (codes "Master") d)))
 
 -- ---- written
 
-abbrev pub master_data : Known → Data
+abbrev pub master_data : State → Data
 master_data m =
     object (member (codes "Name") (string m.name)
     (member (codes "Spawns") (array (data_items record_data m.records))
@@ -101,9 +101,9 @@ master_data m =
     (member (codes "Workers") (texts_data m.workers) no_members))))
 
 -- its state in a format
-abbrev pub master_state_in : Format → Known → Data
+abbrev pub master_state_in : Format → State → Data
 master_state_in format m = state_data format (codes "Master") (master_data m)
 
 -- its state as it is stored
-abbrev pub master_state_data : Known → Data
-master_state_data m = master_state_in written m
+abbrev pub master_state_data : State → Data
+master_state_data m = master_state_in written_format m

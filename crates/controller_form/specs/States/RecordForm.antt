@@ -14,10 +14,10 @@ use Rattle.spawn.specs.declared.records.phase.Phase.TheVariants.{Out, Merged, Wi
 use Rattle.spawn.specs.declared.records.spawn_rec.SpawnRec.{SpawnRec}
 use Rattle.json_items.specs.TicketDraft.{are_bare, resources_of}
 use Rattle.json_items.specs.Listed.{data_items, list_form, texts_data}
-use Rattle.json_items.specs.Resources.{all_showing, raw_data, resource_draft}
+use Rattle.json_items.specs.Resources.{all_showing, raw_data, resource_form}
 use Rattle.json_items.specs.Resources.{resource_has_names, resource_has_texts}
 use Rattle.json_items.specs.Shown.{nothing_shown}
-use Rattle.json_source.specs.Read.{◌>>=◌, provided, has_only, number_under, text_under}
+use Rattle.json_source.specs.Read.{◌>>=◌, some_if, has_only, number_under, text_under}
 use Rattle.controller_form.specs.Orders.KnownSpawn.{spawn_under}
 use Rattle.controller_form.specs.declared.states.format.Format.{Format}
 use Rattle.controller_form.specs.declared.states.format.Format.TheVariants.{First, Second}
@@ -32,18 +32,18 @@ phase_named word =
     else (if bytes_eq word (codes "Withdrawn") then Some Withdrawn else None))
 
 -- whether a format can tell a phase; the first tells of no spawn that was withdrawn
-abbrev pub is_phase_told_in : Format → Phase → Bool
-is_phase_told_in First Out = true
-is_phase_told_in First Merged = true
-is_phase_told_in First Withdrawn = false
-is_phase_told_in Second phase = true
+abbrev pub can_store_phase : Format → Phase → Bool
+can_store_phase First Out = true
+can_store_phase First Merged = true
+can_store_phase First Withdrawn = false
+can_store_phase Second phase = true
 
 -- the phase that a format tells
 abbrev pub phase_under : Format → Data → Option Phase
 phase_under format d = do
   word ← text_under (codes "Phase") d
   phase ← phase_named word
-  _ ← provided (is_phase_told_in format phase)
+  _ ← some_if (can_store_phase format phase)
   Some phase
 
 abbrev pub record_members : List (List ℕ)
@@ -53,14 +53,14 @@ record_members = codes "At" ∷ codes "ID" ∷ codes "Node" ∷ codes "Phase" �
 -- a record, and whether its copies to read show nothing of spawns
 unfoldable pub record_form : Format → Data → Option StoredRecord
 record_form format d = do
-  _ ← provided (has_only record_members d)
+  _ ← some_if (has_only record_members d)
   at ← number_under (codes "At") d
   phase ← phase_under format d
   spawn ← spawn_under (codes "ID") d
   node ← text_under (codes "Node") d
   worker ← text_under (codes "Worker") d
   rw ← option_and_then (list_form as_str) (get (codes "RW") d)
-  ro ← option_and_then (list_form resource_draft) (get (codes "RO") d)
+  ro ← option_and_then (list_form resource_form) (get (codes "RO") d)
   Some (record {
     spawn = record {
       id = spawn;
@@ -75,8 +75,8 @@ record_form format d = do
   })
 
 -- whether it can tell each phase of several spawns
-abbrev pub are_told_in : Format → List SpawnRec → Bool
-are_told_in format spawns = list_all (λ r. is_phase_told_in format r.phase) spawns
+abbrev pub can_store_phases : Format → List SpawnRec → Bool
+can_store_phases format spawns = list_all (λ r. can_store_phase format r.phase) spawns
 
 -- ---- ids, names and texts
 

@@ -7,15 +7,15 @@ use Rattle.serde_json.specs.Data.{Data, no_members, number, unsigned, object, pu
 use Rattle.serde_json.specs.Find.{get}
 use Rattle.ticket_items.specs.declared.refusal.Refusal.{Refusal}
 use Rattle.ticket_items.specs.declared.refusal.Refusal.TheVariants.{BadState, NotProfile}
-use Rattle.json_source.specs.Read.{◌>>=◌, provided, has_only, number_under}
+use Rattle.json_source.specs.Read.{◌>>=◌, some_if, has_only, number_under}
 use Rattle.controller_form.specs.declared.states.format.Format.{Format}
 use Rattle.controller_form.specs.declared.states.format.Format.TheVariants.{First, Second}
 
 -- ---- formats
 
 -- the one that is written
-abbrev pub written : Format
-written = Second
+abbrev pub written_format : Format
+written_format = Second
 
 -- the number of a format
 abbrev pub format_number : Format → ℕ
@@ -35,16 +35,16 @@ format_of d =
     (Err NotProfile)
 
 -- what a read gives in the format of data, or what is wrong with that
-abbrev pub read_in : {X : Type 0} → Result Format Refusal → (Format → Result X Refusal)
+abbrev pub read_in_format : {X : Type 0} → Result Format Refusal → (Format → Result X Refusal)
     → Result X Refusal
-read_in (Ok format) read = read format
-read_in (Err e) read = Err e
+read_in_format (Ok format) read = read format
+read_in_format (Err e) read = Err e
 
 -- ---- the controller
 
 -- the controller of a kind, where the data holds one of that kind alone
 abbrev pub controller_under : List ℕ → Data → Option Data
-controller_under kind d = provided (has_only (codes "Format" ∷ kind ∷ []) d) >>= λ _. get kind d
+controller_under kind d = some_if (has_only (codes "Format" ∷ kind ∷ []) d) >>= λ _. get kind d
 
 -- the state of a controller of a kind
 abbrev pub state_data : Format → List ℕ → Data → Data

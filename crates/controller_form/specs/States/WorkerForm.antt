@@ -12,16 +12,16 @@ use Rattle.ticket_items.specs.declared.refusal.Refusal.{Refusal}
 use Rattle.ticket_items.specs.declared.refusal.Refusal.TheVariants.{BadState}
 use Rattle.ticket_items.specs.declared.refusal.Refusal.TheVariants.{NotProfile}
 use Rattle.ticket_rows.specs.Ticket.{first_of, unless}
-use Rattle.json_items.specs.Judged.{checked_fault, sound}
+use Rattle.json_items.specs.Validation.{checked_fault, checked_value}
 use Rattle.json_items.specs.Listed.{data_items, list_form}
-use Rattle.json_source.specs.Read.{◌>>=◌, provided, has_only, text_under}
+use Rattle.json_source.specs.Read.{◌>>=◌, some_if, has_only, text_under}
 use Rattle.worker_core.specs.Stored.{is_worker}
-use Rattle.worker_core.specs.Worker.{Known, known}
-use Rattle.controller_form.specs.States.EntryForm.{entry_data, entry_draft, entry_fault}
+use Rattle.worker_core.specs.Worker.{State, state}
+use Rattle.controller_form.specs.States.EntryForm.{entry_data, entry_fault, entry_form}
 use Rattle.controller_form.specs.States.EntryForm.{entry_has_names, entry_has_texts, entry_in}
 use Rattle.controller_form.specs.States.PartFaults.{part_faults}
-use Rattle.controller_form.specs.States.StateFormat.{controller_under, format_of, read_in}
-use Rattle.controller_form.specs.States.StateFormat.{state_data, written}
+use Rattle.controller_form.specs.States.StateFormat.{controller_under, format_of, read_in_format}
+use Rattle.controller_form.specs.States.StateFormat.{state_data, written_format}
 use Rattle.controller_form.specs.declared.states.format.Format.{Format}
 use Rattle.controller_form.specs.declared.states.stored_entry.StoredEntry.{StoredEntry}
 
@@ -36,17 +36,17 @@ pub record StoredWorker : Type 0 where
 abbrev pub worker_members : List (List ℕ)
 worker_members = codes "Entries" ∷ codes "Master" ∷ codes "Name" ∷ []
 
-unfoldable pub worker_draft : Format → Data → Option StoredWorker
-worker_draft format d = do
-  _ ← provided (has_only worker_members d)
+unfoldable pub worker_form : Format → Data → Option StoredWorker
+worker_form format d = do
+  _ ← some_if (has_only worker_members d)
   name ← text_under (codes "Name") d
   master ← text_under (codes "Master") d
-  entries ← option_and_then (list_form (entry_draft format)) (get (codes "Entries") d)
+  entries ← option_and_then (list_form (entry_form format)) (get (codes "Entries") d)
   Some (record { name = name; master = master; entries = entries })
 
 -- the worker of a draft
-abbrev pub worker_in : StoredWorker → Known
-worker_in w = known w.name w.master (map entry_in w.entries)
+abbrev pub worker_in : StoredWorker → State
+worker_in w = state w.name w.master (map entry_in w.entries)
 
 -- ---- faults
 
@@ -79,26 +79,26 @@ worker_fault w = checked_fault (worker_has_names w) (worker_has_texts w) (worker
 -- ---- what data is read as
 
 -- the worker that a draft is, or its first refusal
-abbrev pub judged_worker : Option StoredWorker → Result Known Refusal
+abbrev pub judged_worker : Option StoredWorker → Result State Refusal
 judged_worker draft =
-    option_map_or (λ w. sound (worker_fault w) (worker_in w)) draft (Err NotProfile)
+    option_map_or (λ w. checked_value (worker_fault w) (worker_in w)) draft (Err NotProfile)
 
 -- the worker whose state the data is, or its first refusal
-abbrev pub worker_state_read : Data → Result Known Refusal
-worker_state_read d = read_in (format_of d) (λ format.
-    judged_worker (option_and_then (worker_draft format) (controller_under (codes "Worker") d)))
+abbrev pub worker_state_read : Data → Result State Refusal
+worker_state_read d = read_in_format (format_of d) (λ format.
+    judged_worker (option_and_then (worker_form format) (controller_under (codes "Worker") d)))
 
 -- ---- written
 
-abbrev pub worker_data : Format → Known → Data
+abbrev pub worker_data : Format → State → Data
 worker_data format w =
     object (member (codes "Entries") (array (data_items (entry_data format) w.entries))
     (member (codes "Master") (string w.master) (member (codes "Name") (string w.name) no_members)))
 
 -- its state in a format
-abbrev pub worker_state_in : Format → Known → Data
+abbrev pub worker_state_in : Format → State → Data
 worker_state_in format w = state_data format (codes "Worker") (worker_data format w)
 
 -- its state as it is stored
-abbrev pub worker_state_data : Known → Data
-worker_state_data w = worker_state_in written w
+abbrev pub worker_state_data : State → Data
+worker_state_data w = worker_state_in written_format w

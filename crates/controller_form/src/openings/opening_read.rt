@@ -1,13 +1,13 @@
 //! From bytes to a controller in its beginning.
 
 ghost use Rattle.std.specs.Prelude.{Ok, IfOk, IfErr};
-ghost use Rattle.json_items.specs.Judged.{Answers};
+ghost use Rattle.json_items.specs.Validation.{Answers};
 ghost use Rattle.json_profile.specs.ReadAs.{IsReadAs, IsRefusalOf};
 ghost use Rattle.controller_form.specs.Openings.OpeningForm as form;
 
 use crate::openings::opening::Opening;
 use crate::openings::raw_shop::RawShop;
-use json_items::{Raw, find_two, only};
+use json_items::{Raw, check_members, find_two};
 use json_source::{Scratch, Source, tree_of};
 use master_core::Master;
 use std::alloc::Global;
@@ -18,8 +18,8 @@ use worker_core::Worker;
 fn master_opening<S: Source>(alloc: Global, value: &S) -> Result<Opening, Refusal>
     ensures { Answers result (form.master_read (S.content value.now)) }
 {
-    only(value, &["Master", "Ticket", "Workers"])?;
-    let shop = RawShop::whole(alloc, value)?;
+    check_members(value, &["Master", "Ticket", "Workers"])?;
+    let shop = RawShop::read_whole(alloc, value)?;
     let master = Master::new(alloc, shop.master, shop.workers, shop.ticket)?;
     Ok(Opening::Master(master))
 }
@@ -28,7 +28,7 @@ fn master_opening<S: Source>(alloc: Global, value: &S) -> Result<Opening, Refusa
 fn worker_opening<S: Source>(alloc: Global, value: &S) -> Result<Opening, Refusal>
     ensures { Answers result (form.worker_read (S.content value.now)) }
 {
-    only(value, &["Master", "Worker"])?;
+    check_members(value, &["Master", "Worker"])?;
     let (name, master) = find_two(alloc, value, "Worker", "Master")??;
     let worker = Worker::new(alloc, name, master)?;
     Ok(Opening::Worker(worker))

@@ -1,5 +1,5 @@
 use crate::openings::shop::Shop;
-use json_items::{Form, Judged, Raw, find_three};
+use json_items::{Form, Raw, Validation, find_three};
 use json_profile::RawTicket;
 use json_source::Source;
 use master_core::are_apart;
@@ -21,7 +21,7 @@ pub struct RawShop {
 impl Form for RawShop {
     ghost use Rattle.controller_form.specs.Openings.ShopForm as shops;
 
-    ghost form = { shops.shop_draft };
+    ghost form = { shops.shop_form };
 
     ghost has_names = { shops.shop_has_names };
 
@@ -29,9 +29,9 @@ impl Form for RawShop {
 
     /// What is found under the members `Master`, `Workers` and `Ticket` of a value, which may have
     /// others.
-    #[tactic(auto, unfolding(crate::specs::Openings::ShopForm::shop_draft), using(json_items::proofs::Tests::all_true))]
+    #[tactic(auto, unfolding(crate::specs::Openings::ShopForm::shop_form), using(json_items::proofs::Tests::all_true))]
     // Proved: The beginning of a shop is found as its form says.
-    fn find<S: Source>(alloc: Global, value: &S) -> Result<Judged<RawShop>, Refusal> {
+    fn find<S: Source>(alloc: Global, value: &S) -> Result<Validation<RawShop>, Refusal> {
         let found = find_three(alloc, value, "Master", "Workers", "Ticket")?;
         Ok(found.map(|((master, workers), ticket)| RawShop {
             master,

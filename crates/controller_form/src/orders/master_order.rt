@@ -1,10 +1,10 @@
 //! The orders of masters.
 
-ghost use Rattle.json_items.specs.Judged.{Answers, Reads};
+ghost use Rattle.json_items.specs.Validation.{Answers, Reads};
 ghost use Rattle.controller_form.specs.Orders.MasterForm as forms;
 
 use crate::orders::known_spawn::known_spawn;
-use json_items::{Judged, find_three, find_under, only, text_under};
+use json_items::{Validation, check_members, find_three, find_under, text_under};
 use json_source::Source;
 use master_core::Order;
 use std::alloc::Global;
@@ -12,22 +12,22 @@ use ticket_tree::Refusal;
 
 /// An order to edit the ticket.
 #[tactic(auto, unfolding(crate::specs::Orders::MasterForm::edit_form))]
-fn edit<S: Source>(alloc: Global, value: &S) -> Result<Judged<Order>, Refusal>
+fn edit<S: Source>(alloc: Global, value: &S) -> Result<Validation<Order>, Refusal>
     ensures { Reads forms.order_has_names forms.order_has_texts result
         (forms.edit_form (S.content value.now)) }
 {
-    only(value, &["Edit", "Order"])?;
+    check_members(value, &["Edit", "Order"])?;
     let edit = find_under(alloc, value, "Edit")?;
     Ok(edit.map(|edit| Order::Edit(edit)))
 }
 
 /// An order to send a node to a worker.
 #[tactic(auto, unfolding(crate::specs::Orders::MasterForm::spawn_form), using(json_items::proofs::Tests::all_true))]
-fn spawn<S: Source>(alloc: Global, value: &S) -> Result<Judged<Order>, Refusal>
+fn spawn<S: Source>(alloc: Global, value: &S) -> Result<Validation<Order>, Refusal>
     ensures { Reads forms.order_has_names forms.order_has_texts result
         (forms.spawn_form (S.content value.now)) }
 {
-    only(value, &["Node", "Order", "RW", "Worker"])?;
+    check_members(value, &["Node", "Order", "RW", "Worker"])?;
     let found = find_three(alloc, value, "Node", "Worker", "RW")?;
     Ok(found.map(|((node, worker), rw)| Order::Spawn { node, worker, rw }))
 }
@@ -35,7 +35,7 @@ fn spawn<S: Source>(alloc: Global, value: &S) -> Result<Judged<Order>, Refusal>
 /// The master's order that is found in a value, of the kind that its `Order` names. Refuses
 /// `NotProfile`, and `Memory`.
 #[tactic(auto, unfolding(crate::specs::Orders::MasterForm::master_order_form))]
-pub fn find_master_order<S: Source>(alloc: Global, value: &S) -> Result<Judged<Order>, Refusal>
+pub fn find_master_order<S: Source>(alloc: Global, value: &S) -> Result<Validation<Order>, Refusal>
     ensures { Reads forms.order_has_names forms.order_has_texts result
         (forms.master_order_form (S.content value.now)) }
 {

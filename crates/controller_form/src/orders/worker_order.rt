@@ -1,11 +1,11 @@
 //! The orders of workers.
 
-ghost use Rattle.json_items.specs.Judged.{Answers, Reads};
+ghost use Rattle.json_items.specs.Validation.{Answers, Reads};
 ghost use Rattle.controller_form.specs.Orders.WorkerForm as forms;
 
 use crate::orders::end_named::end_named;
 use crate::orders::known_spawn::known_spawn;
-use json_items::{Judged, find_two, find_under, only, text_under};
+use json_items::{Validation, check_members, find_two, find_under, text_under};
 use json_source::Source;
 use std::alloc::Global;
 use ticket_tree::Refusal;
@@ -13,22 +13,22 @@ use worker_core::Order;
 
 /// An order to edit the part of a spawn.
 #[tactic(auto, unfolding(crate::specs::Orders::WorkerForm::edit_form))]
-fn edit<S: Source>(alloc: Global, value: &S) -> Result<Judged<Order>, Refusal>
+fn edit<S: Source>(alloc: Global, value: &S) -> Result<Validation<Order>, Refusal>
     ensures { Reads forms.order_has_names forms.order_has_texts result
         (forms.edit_form (S.content value.now)) }
 {
-    only(value, &["Edit", "Order", "SpawnID"])?;
+    check_members(value, &["Edit", "Order", "SpawnID"])?;
     let found = find_two(alloc, value, "SpawnID", "Edit")?;
     Ok(found.map(|(spawn, edit)| Order::Edit(spawn, edit)))
 }
 
 /// An order to end the work on it.
 #[tactic(auto, unfolding(crate::specs::Orders::WorkerForm::finish_form))]
-fn finish<S: Source>(alloc: Global, value: &S) -> Result<Judged<Order>, Refusal>
+fn finish<S: Source>(alloc: Global, value: &S) -> Result<Validation<Order>, Refusal>
     ensures { Reads forms.order_has_names forms.order_has_texts result
         (forms.finish_form (S.content value.now)) }
 {
-    only(value, &["Order", "SpawnID", "Status"])?;
+    check_members(value, &["Order", "SpawnID", "Status"])?;
     let word = text_under(value, "Status").ok_or(Refusal::NotProfile)?;
     let end = end_named(word).ok_or(Refusal::NotProfile)?;
     let spawn = find_under(alloc, value, "SpawnID")?;
@@ -38,7 +38,7 @@ fn finish<S: Source>(alloc: Global, value: &S) -> Result<Judged<Order>, Refusal>
 /// The worker's order that is found in a value, of the kind that its `Order` names. Refuses
 /// `NotProfile`, and `Memory`.
 #[tactic(auto, unfolding(crate::specs::Orders::WorkerForm::worker_order_form))]
-pub fn find_worker_order<S: Source>(alloc: Global, value: &S) -> Result<Judged<Order>, Refusal>
+pub fn find_worker_order<S: Source>(alloc: Global, value: &S) -> Result<Validation<Order>, Refusal>
     ensures { Reads forms.order_has_names forms.order_has_texts result
         (forms.worker_order_form (S.content value.now)) }
 {

@@ -8,7 +8,7 @@ ghost use Rattle.json_items.specs.Listed.{data_items};
 ghost use Rattle.json_text.specs.Printed.{data_tokens, AreItemsPrinted, AreMembersPrinted};
 ghost use Rattle.json_text.specs.Printed.{IsAppended, IsPrinted, IsReadAgain};
 ghost use Rattle.controller_form.specs.States.EntryForm as form;
-ghost use Rattle.controller_form.specs.States.StateFormat.{written};
+ghost use Rattle.controller_form.specs.States.StateFormat.{written_format};
 ghost use Rattle.controller_form.specs.States.Writable.{IsWritableEntry, IsWritablePart};
 
 use crate::states::stage_word::stage_word;
@@ -46,7 +46,8 @@ fn print_some_part(alloc: Global, out: &mut Writer, part: &Option<Part>) -> Resu
 
 /// Prints an entry, whose part is read again.
 fn print_entry(alloc: Global, out: &mut Writer, entry: &Entry) -> Result<(), AllocError>
-    ensures printed { OnOk result (IsPrinted (form.entry_data written entry.now) out.old out.new) }
+    ensures printed { OnOk result (IsPrinted
+        (form.entry_data written_format entry.now) out.old out.new) }
     ensures known { OnOk result (IsWritableEntry entry.now) }
 {
     let id = entry.spawn_id.to_id(alloc)?;
@@ -62,7 +63,7 @@ fn print_entry(alloc: Global, out: &mut Writer, entry: &Entry) -> Result<(), All
 /// Prints entries one after another, whose parts are read again.
 fn print_each_entry(alloc: Global, out: &mut Writer, entries: &[Entry]) -> Result<(), AllocError>
     ensures printed { OnOk result
-        (AreItemsPrinted (form.entry_data written) entries.now out.old out.new) }
+        (AreItemsPrinted (form.entry_data written_format) entries.now out.old out.new) }
     ensures known { OnOk result (All IsWritableEntry entries.now) }
 {
     for entry in entries {
@@ -75,10 +76,10 @@ fn print_each_entry(alloc: Global, out: &mut Writer, entries: &[Entry]) -> Resul
 pub fn print_entries(alloc: Global, out: &mut Writer, entries: &[Entry]) -> Result<(), AllocError>
     ensures printed { OnOk result (IsAppended
         (TokenSeen.key (codes "Entries")
-        ∷ data_tokens (array (data_items (form.entry_data written) entries.now)))
+        ∷ data_tokens (array (data_items (form.entry_data written_format) entries.now)))
         out.old out.new) }
     ensures again { OnOk result
-        (IsReadAgain (array (data_items (form.entry_data written) entries.now))) }
+        (IsReadAgain (array (data_items (form.entry_data written_format) entries.now))) }
     ensures known { OnOk result (All IsWritableEntry entries.now) }
 {
     out.key("Entries")?;

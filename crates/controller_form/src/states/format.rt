@@ -4,7 +4,7 @@ ghost use Rattle.std.specs.Prelude.{◌≡◌, IfErr, codes};
 ghost use Rattle.json_source.specs.Read.{Gives, number_under};
 ghost use Rattle.controller_form.specs.States.StateFormat as format;
 
-use json_items::{number_under, only};
+use json_items::{check_members, number_under};
 use json_source::Source;
 use ticket_tree::Refusal;
 
@@ -55,6 +55,6 @@ pub fn controller_under<'a, S: Source>(value: &'a S, kind: &str) -> Result<&'a S
         (format.controller_under kind.now (S.content value.now)) }
     ensures refused { IfErr result (λ e. e ≡ Refusal.NotProfile) }
 {
-    only(value, &["Format", kind])?;
+    check_members(value, &["Format", kind])?;
     value.member(kind).ok_or(Refusal::NotProfile)
 }

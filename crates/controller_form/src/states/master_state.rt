@@ -10,7 +10,7 @@ use crate::states::record_text::print_records;
 use crate::states::state_form::StateForm;
 use crate::states::stored_record::StoredRecord;
 use json::Writer;
-use json_items::{Raw, both, find_list_in, find_three, only};
+use json_items::{Raw, check_members, find_list_in, find_three, zip};
 use json_profile::{RawTicket, print_ticket};
 use json_source::Source;
 use json_text::{print_items, print_member};
@@ -57,14 +57,14 @@ fn spawns_of(alloc: Global, records: Items<StoredRecord>) -> Result<Vec<SpawnRec
 
 impl StateForm for Master {
     ghost use Rattle.controller_form.specs.States.MasterForm as form;
-    ghost use Rattle.controller_form.specs.States.RecordForm.{are_told_in};
+    ghost use Rattle.controller_form.specs.States.RecordForm.{can_store_phases};
     ghost use Rattle.controller_form.specs.declared.states.format.Format.TheVariants.{First};
 
     ghost state_data = { form.master_state_data };
 
     ghost first_data = { form.master_state_in First };
 
-    ghost has_first = { λ m. are_told_in First m.records };
+    ghost has_first = { λ m. can_store_phases First m.records };
 
     ghost state_read = { form.master_state_read };
 
@@ -79,10 +79,10 @@ impl StateForm for Master {
     fn state_of<S: Source>(alloc: Global, value: &S) -> Result<Master, Refusal> {
         let format = format_of(value)?;
         let controller = controller_under(value, "Master")?;
-        only(controller, &["Name", "Spawns", "Ticket", "Workers"])?;
+        check_members(controller, &["Name", "Spawns", "Ticket", "Workers"])?;
         let own = find_three::<_, _, RawTicket, _>(alloc, controller, "Name", "Workers", "Ticket")?;
         let records = find_list_in(alloc, controller, "Spawns", &format)?;
-        let (((name, workers), ticket), records) = both(own, records)?;
+        let (((name, workers), ticket), records) = zip(own, records)?;
         let spawns = spawns_of(alloc, records)?;
         let ticket = ticket.build(alloc)?;
         Master::of_parts(alloc, name, workers, ticket, spawns)

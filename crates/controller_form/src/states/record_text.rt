@@ -11,7 +11,7 @@ ghost use Rattle.controller_form.specs.States.RecordForm as form;
 
 use crate::states::phase_word::phase_word;
 use json::Writer;
-use json_items::Shown;
+use json_items::Showing;
 use json_text::{print_member, print_showing, print_text};
 use spawn::SpawnRec;
 use std::alloc::{AllocError, Global};
@@ -29,7 +29,7 @@ fn print_record(alloc: Global, out: &mut Writer, spawn: &SpawnRec) -> Result<(),
     print_member(out, "ID", &id)?;
     print_member(out, "Node", &spawn.node)?;
     print_text(out, "Phase", phase_word(spawn.phase))?;
-    print_showing(out, "RO", spawn.ro.as_slice(), &Shown::nothing(alloc))?;
+    print_showing(out, "RO", spawn.ro.as_slice(), &Showing::nothing(alloc))?;
     print_member(out, "RW", &spawn.rw)?;
     print_member(out, "Worker", &spawn.worker)?;
     out.end_object()

@@ -5,14 +5,14 @@ ghost use Rattle.serde_json.specs.Read.{max_depth};
 ghost use Rattle.serde_json.specs.View.{view};
 ghost use Rattle.serde_json.specs.Written.{compact_text, has_float};
 ghost use Rattle.ticket_items.specs.declared.refusal.Refusal.{Refusal as RefusalSeen};
-ghost use Rattle.json_items.specs.Judged.{Answers};
+ghost use Rattle.json_items.specs.Validation.{Answers};
 ghost use Rattle.json_profile.specs.ReadAs.{IsReadAs};
 ghost use Rattle.json_text.specs.Printed.{IsPrinted};
 
 use json::Writer;
 use json_profile::value_printed;
 use json_source::Source;
-use json_text::finished;
+use json_text::written_text;
 use serde_json::Value;
 use std::alloc::{AllocError, Global};
 use ticket_tree::Refusal;
@@ -78,7 +78,7 @@ pub trait StateForm: Drop {
     {
         let mut out = Writer::new(Vec::with_capacity(alloc, ROOM)?);
         self.print_state(alloc, &mut out)?;
-        Ok(finished(out))
+        Ok(written_text(out))
     }
 
     /// Its state as a value, which is read as this controller; as what the first format tells of it

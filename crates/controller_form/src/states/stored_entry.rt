@@ -1,14 +1,14 @@
 //! The entries of a worker, as they are read.
 
 ghost use Rattle.std.specs.Prelude.{◌≡◌, ◌⊎◌, None, Some, IfErr, IfOk, OnOk};
-ghost use Rattle.json_items.specs.Judged.{Reads};
+ghost use Rattle.json_items.specs.Validation.{Reads};
 ghost use Rattle.json_source.specs.Read.{Gives};
 ghost use Rattle.controller_form.specs.States.EntryForm as form;
 
 use crate::orders::end_named::end_named;
 use crate::states::format::{Format, at_under};
 use crate::states::stage_word::stage_named;
-use json_items::{FormIn, Judged, Raw, find_two, find_under, only, text_under};
+use json_items::{FormIn, Raw, Validation, check_members, find_two, find_under, text_under};
 use json_profile::RawPart;
 use json_source::Source;
 use std::alloc::Global;
@@ -46,12 +46,12 @@ fn end_under<S: Source>(value: &S) -> Result<End, Refusal>
 }
 
 /// An entry with its part, which tells its spawn.
-#[tactic(auto, unfolding(crate::specs::States::EntryForm::held_draft), using(crate::proofs::Named::own_named))]
-fn told_by_part<S: Source>(alloc: Global, value: &S) -> Result<Judged<StoredEntry>, Refusal>
+#[tactic(auto, unfolding(crate::specs::States::EntryForm::held_form), using(crate::proofs::Named::own_named))]
+fn told_by_part<S: Source>(alloc: Global, value: &S) -> Result<Validation<StoredEntry>, Refusal>
     ensures { Reads form.entry_has_names form.entry_has_texts result
-        (form.held_draft Format.First (S.content value.now)) }
+        (form.held_form Format.First (S.content value.now)) }
 {
-    only(value, &["At", "Part", "Phase"])?;
+    check_members(value, &["At", "Part", "Phase"])?;
     let at = at_under(value)?;
     let phase = stage_under(value)?;
     let part = find_under::<RawPart, _>(alloc, value, "Part")?;
@@ -64,12 +64,12 @@ fn told_by_part<S: Source>(alloc: Global, value: &S) -> Result<Judged<StoredEntr
 }
 
 /// An entry with its part, and with its spawn's id.
-#[tactic(auto, unfolding(crate::specs::States::EntryForm::held_draft))]
-fn held<S: Source>(alloc: Global, value: &S) -> Result<Judged<StoredEntry>, Refusal>
+#[tactic(auto, unfolding(crate::specs::States::EntryForm::held_form))]
+fn find_held<S: Source>(alloc: Global, value: &S) -> Result<Validation<StoredEntry>, Refusal>
     ensures { Reads form.entry_has_names form.entry_has_texts result
-        (form.held_draft Format.Second (S.content value.now)) }
+        (form.held_form Format.Second (S.content value.now)) }
 {
-    only(value, &["At", "ID", "Part", "Phase"])?;
+    check_members(value, &["At", "ID", "Part", "Phase"])?;
     let at = at_under(value)?;
     let phase = stage_under(value)?;
     let found = find_two(alloc, value, "ID", "Part")?;
@@ -82,14 +82,14 @@ fn held<S: Source>(alloc: Global, value: &S) -> Result<Judged<StoredEntry>, Refu
 }
 
 /// The entry of a spawn of which there is no part, in this stage.
-#[tactic(auto, unfolding(crate::specs::States::EntryForm::partless_draft), using(json_items::proofs::Tests::and_true))]
-fn partless<S: Source>(
+#[tactic(auto, unfolding(crate::specs::States::EntryForm::partless_form), using(json_items::proofs::Tests::and_true))]
+fn find_partless<S: Source>(
     alloc: Global,
     value: &S,
     phase: Stage,
-) -> Result<Judged<StoredEntry>, Refusal>
+) -> Result<Validation<StoredEntry>, Refusal>
     ensures { Reads form.entry_has_names form.entry_has_texts result
-        (form.partless_draft phase (S.content value.now)) }
+        (form.partless_form phase (S.content value.now)) }
 {
     let at = at_under(value)?;
     let spawn = find_under::<SpawnId, _>(alloc, value, "ID")?;
@@ -102,45 +102,45 @@ fn partless<S: Source>(
 }
 
 /// An entry whose part was given up.
-#[tactic(auto, unfolding(crate::specs::States::EntryForm::closed_draft))]
-fn closed<S: Source>(alloc: Global, value: &S) -> Result<Judged<StoredEntry>, Refusal>
+#[tactic(auto, unfolding(crate::specs::States::EntryForm::closed_form))]
+fn find_closed<S: Source>(alloc: Global, value: &S) -> Result<Validation<StoredEntry>, Refusal>
     ensures { Reads form.entry_has_names form.entry_has_texts result
-        (form.closed_draft (S.content value.now)) }
+        (form.closed_form (S.content value.now)) }
 {
-    only(value, &["At", "End", "ID", "Phase"])?;
+    check_members(value, &["At", "End", "ID", "Phase"])?;
     let end = end_under(value)?;
-    partless(alloc, value, Stage::Closed(end))
+    find_partless(alloc, value, Stage::Closed(end))
 }
 
 /// An entry of a spawn that was declined.
-#[tactic(auto, unfolding(crate::specs::States::EntryForm::declined_draft))]
-fn declined<S: Source>(alloc: Global, value: &S) -> Result<Judged<StoredEntry>, Refusal>
+#[tactic(auto, unfolding(crate::specs::States::EntryForm::declined_form))]
+fn find_declined<S: Source>(alloc: Global, value: &S) -> Result<Validation<StoredEntry>, Refusal>
     ensures { Reads form.entry_has_names form.entry_has_texts result
-        (form.declined_draft (S.content value.now)) }
+        (form.declined_form (S.content value.now)) }
 {
-    only(value, &["At", "ID", "Phase"])?;
-    partless(alloc, value, Stage::Declined)
+    check_members(value, &["At", "ID", "Phase"])?;
+    find_partless(alloc, value, Stage::Declined)
 }
 
 impl FormIn<Format> for StoredEntry {
-    ghost form_in = { form.entry_draft };
+    ghost form_in = { form.entry_form };
 
     ghost names_valid = { form.entry_has_names };
 
     ghost texts_valid = { form.entry_has_texts };
 
-    #[tactic(auto, unfolding(crate::specs::States::EntryForm::entry_draft))]
+    #[tactic(auto, unfolding(crate::specs::States::EntryForm::entry_form))]
     fn find_in<S: Source>(
         alloc: Global,
         value: &S,
         format: &Format,
-    ) -> Result<Judged<StoredEntry>, Refusal> {
+    ) -> Result<Validation<StoredEntry>, Refusal> {
         match format {
             Format::First => told_by_part(alloc, value),
             Format::Second => match text_under(value, "Phase") {
-                Some("Closed") => closed(alloc, value),
-                Some("Declined") => declined(alloc, value),
-                _ => held(alloc, value),
+                Some("Closed") => find_closed(alloc, value),
+                Some("Declined") => find_declined(alloc, value),
+                _ => find_held(alloc, value),
             },
         }
     }

@@ -6,7 +6,7 @@ ghost use Rattle.controller_form.specs.States.RecordForm as form;
 
 use crate::states::format::{Format, at_under};
 use crate::states::phase_word::phase_named;
-use json_items::{FormIn, Judged, both, find_four, only, text_under};
+use json_items::{FormIn, Validation, check_members, find_four, text_under, zip};
 use json_profile::FoundPool;
 use json_source::Source;
 use spawn::{Phase, SpawnRec};
@@ -24,8 +24,8 @@ pub struct StoredRecord {
 }
 
 /// Whether a format can tell a phase.
-fn is_phase_told_in(format: Format, phase: Phase) -> bool
-    ensures { result ≡ form.is_phase_told_in format phase }
+fn can_store_phase(format: Format, phase: Phase) -> bool
+    ensures { result ≡ form.can_store_phase format phase }
 {
     match (format, phase) {
         (Format::First, Phase::Withdrawn) => false,
@@ -41,7 +41,7 @@ fn phase_under<S: Source>(value: &S, format: Format) -> Result<Phase, Refusal>
 {
     let word = text_under(value, "Phase").ok_or(Refusal::NotProfile)?;
     let phase = phase_named(word).ok_or(Refusal::NotProfile)?;
-    if is_phase_told_in(format, phase) {
+    if can_store_phase(format, phase) {
         Ok(phase)
     } else {
         Err(Refusal::NotProfile)
@@ -60,14 +60,14 @@ impl FormIn<Format> for StoredRecord {
         alloc: Global,
         value: &S,
         format: &Format,
-    ) -> Result<Judged<StoredRecord>, Refusal> {
-        only(value, RECORD_MEMBERS)?;
+    ) -> Result<Validation<StoredRecord>, Refusal> {
+        check_members(value, RECORD_MEMBERS)?;
         let at = at_under(value)?;
         let phase = phase_under(value, *format)?;
         let names = find_four(alloc, value, "ID", "Node", "Worker", "RW")?;
         let pool = FoundPool::find_under(alloc, value, "RO")?;
         let bare = pool.is_bare();
-        let found = both(names, pool.resources);
+        let found = zip(names, pool.resources);
         Ok(found.map(|((((id, node), worker), rw), ro)| {
             let spawn = SpawnRec {
                 id,

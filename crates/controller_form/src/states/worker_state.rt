@@ -2,7 +2,7 @@
 
 ghost use Rattle.std.specs.Prelude.{◌≡◌, OnOk};
 ghost use Rattle.json_text.specs.Printed.{IsPrinted};
-ghost use Rattle.controller_form.specs.States.StateFormat.{written};
+ghost use Rattle.controller_form.specs.States.StateFormat.{written_format};
 ghost use Rattle.controller_form.specs.States.WorkerForm as form;
 ghost use Rattle.controller_form.specs.States.Writable.{IsWritableWorker};
 
@@ -11,7 +11,7 @@ use crate::states::format::{WRITTEN, controller_under, format_of};
 use crate::states::state_form::StateForm;
 use crate::states::stored_entries::build_entries;
 use json::Writer;
-use json_items::{both, find_list_in, find_two, only};
+use json_items::{check_members, find_list_in, find_two, zip};
 use json_source::Source;
 use json_text::print_member;
 use std::alloc::{AllocError, Global};
@@ -21,7 +21,7 @@ use worker_core::Worker;
 /// Prints a worker's own members. Its ids, names and texts are valid.
 fn print_worker(alloc: Global, out: &mut Writer, worker: &Worker) -> Result<(), AllocError>
     ensures printed { OnOk result
-        (IsPrinted (form.worker_data written worker.now) out.old out.new) }
+        (IsPrinted (form.worker_data written_format worker.now) out.old out.new) }
     ensures known { OnOk result (IsWritableWorker worker.now) }
 {
     out.begin_object()?;
@@ -56,10 +56,10 @@ impl StateForm for Worker {
     fn state_of<S: Source>(alloc: Global, value: &S) -> Result<Worker, Refusal> {
         let format = format_of(value)?;
         let controller = controller_under(value, "Worker")?;
-        only(controller, &["Entries", "Master", "Name"])?;
+        check_members(controller, &["Entries", "Master", "Name"])?;
         let names = find_two(alloc, controller, "Name", "Master")?;
         let entries = find_list_in(alloc, controller, "Entries", &format)?;
-        let ((name, master), entries) = both(names, entries)?;
+        let ((name, master), entries) = zip(names, entries)?;
         let entries = build_entries(alloc, entries.into_vec())?;
         Worker::of_parts(alloc, name, master, entries)
     }

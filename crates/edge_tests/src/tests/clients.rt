@@ -1,6 +1,6 @@
 use super::dripping::Dripping;
 use http_message::{Methods, Received};
-use peers::{Asked, Client, Limits, Turn};
+use peers::{Client, Limits, OwedClient, Turn};
 use std::alloc::{AllocError, Global};
 use std::test::Fail;
 
@@ -53,7 +53,7 @@ fn told(turn: &Turn<Dripping>) -> &'static str {
 }
 
 /// Whether a request is the one that was sent, and waits for its response as long as it may.
-fn is_sent(asked: &Asked<Dripping>, request: &Received) -> bool {
+fn is_sent(asked: &OwedClient<Dripping>, request: &Received) -> bool {
     request.target.as_slice() == b"/jmf".as_slice()
         && request.body.as_slice() == b"{}".as_slice()
         && asked.deadline() == 60_200

@@ -68,10 +68,10 @@ fn ends(deliveries: &mut Deliveries, line: usize, end: End, now: u64) {
         return;
     }
     match end {
-        End::Failed => deliveries.failed(line, now),
-        End::Taken => deliveries.taken(line, now),
-        End::Refused(number) => deliveries.refused(line, number, now),
-        End::Withdrawn => deliveries.withdrawn(line),
+        End::Failed => deliveries.fail_flight(line, now),
+        End::Taken => deliveries.accept_flight(line, now),
+        End::Refused(number) => deliveries.refuse_flight(line, number, now),
+        End::Withdrawn => deliveries.withdraw_flight(line),
     }
 }
 
@@ -91,12 +91,12 @@ fn comes_so(alloc: Global, deliveries: &mut Deliveries, step: &Step) -> Result<b
         Ends(line, end, now) => ends(deliveries, *line, *end, *now),
         AllFail(moments) => all_fail(deliveries, moments),
         Wake(at) => return Ok(deliveries.wake() == Some(*at)),
-        Heard(line, now) => deliveries.heard(*line, *now),
+        Heard(line, now) => deliveries.hear_from(*line, *now),
         Fares(controller, spawn, wanted) => {
             return Ok(deliveries.progress(*controller, SpawnId::new(*spawn)?) == *wanted);
         }
         Again(controller, spawn, is_out) => {
-            return Ok(deliveries.again(*controller, SpawnId::new(*spawn)?)? == *is_out);
+            return Ok(deliveries.give_again(*controller, SpawnId::new(*spawn)?)? == *is_out);
         }
     }
     Ok(true)

@@ -7,7 +7,7 @@ use http_edge::{Counted, Cut, CutReader, CutWriter, EdgeFault, Served, serve_one
 use keepers::{FailingKeep, Keep, MemoryKeep};
 use std::alloc::{AllocError, Global};
 use std::test::Fail;
-use stored_state::{Kept, Refused, Stored};
+use stored_state::{Kept, Refused, StoredController};
 use worker_core::Worker;
 
 const HEAD: &str = "POST /jmf HTTP/1.1\r\nHost: press\r\nContent-Length: 809\r\n\r\n";
@@ -54,7 +54,7 @@ fn status_of(served: Result<Served, EdgeFault>) -> Result<u16, EdgeFault> {
 }
 
 /// Serves the request of a reader that is cut so.
-fn serve_kept<C: Stored, K: Keep>(
+fn serve_kept<C: StoredController, K: Keep>(
     alloc: Global,
     kept: &mut Kept<C, K>,
     request: &[u8],
@@ -175,7 +175,7 @@ fn a_write_fails(rt: HostRuntime) -> Result<(), Fail> {
 }
 
 /// Whether a request is answered so that its step couldn't be saved, for this refusal.
-fn is_told_unsaved<C: Stored, K: Keep>(
+fn is_told_unsaved<C: StoredController, K: Keep>(
     alloc: Global,
     kept: &mut Kept<C, K>,
     request: &[u8],
@@ -196,7 +196,7 @@ fn is_told_unsaved<C: Stored, K: Keep>(
 }
 
 /// Whether a part whose save fails, and a body that is no message behind it, are answered so.
-fn are_told_unsaved<C: Stored, K: Keep>(alloc: Global, keep: K, request: &[u8]) -> bool {
+fn are_told_unsaved<C: StoredController, K: Keep>(alloc: Global, keep: K, request: &[u8]) -> bool {
     let opened: Result<Kept<C, K>, Refused> = Kept::open(alloc, keep);
     match opened {
         Ok(mut kept) => {

@@ -10,7 +10,7 @@ use jdf_commands::step_output;
 use keepers::{FailingKeep, Keep};
 use std::alloc::Global;
 use std::test::Fail;
-use stored_state::{Opened, OrderBytes, Refused, TakenBytes, open_any};
+use stored_state::{AnyKept, OrderBytes, Refused, TakenBytes, open_any};
 use streams::Output;
 
 /// A step of the worker: an order, or else a message, and what is written of it; and what is where
@@ -63,7 +63,7 @@ static STEPS: [Step; 5] = [
 ];
 
 /// The worker beside a keeper that is lent.
-type Lending<'a> = Opened<Lent<'a, FailingKeep>>;
+type Lending<'a> = AnyKept<Lent<'a, FailingKeep>>;
 
 /// The output of what was given out, as far as memory suffices for it.
 fn output_of(alloc: Global, given: OrderBytes) -> Option<Output> {
@@ -74,7 +74,7 @@ fn output_of(alloc: Global, given: OrderBytes) -> Option<Output> {
 /// What is given out of an order.
 fn ordered<K: Keep>(
     alloc: Global,
-    opened: &mut Opened<K>,
+    opened: &mut AnyKept<K>,
     step: &Step,
 ) -> Result<OrderBytes, Refused> {
     opened.order(alloc, step.text.as_bytes(), step.at)
@@ -83,7 +83,7 @@ fn ordered<K: Keep>(
 /// What is given out of a message.
 fn taken<K: Keep>(
     alloc: Global,
-    opened: &mut Opened<K>,
+    opened: &mut AnyKept<K>,
     step: &Step,
 ) -> Result<OrderBytes, Refused> {
     let TakenBytes { reply, answer, .. } = opened.take(alloc, step.text.as_bytes(), step.at)?;
@@ -134,8 +134,8 @@ fn is_refused(alloc: Global, opened: &mut Lending<'_>, step: &Step, refused: Ref
 /// Whether the worker is stale, and is loaded again.
 fn is_reloaded(alloc: Global, opened: &mut Lending<'_>) -> bool {
     match opened {
-        Opened::Master(_) => false,
-        Opened::Worker(kept) => kept.is_stale() && kept.reload(alloc).is_ok(),
+        AnyKept::Master(_) => false,
+        AnyKept::Worker(kept) => kept.is_stale() && kept.reload(alloc).is_ok(),
     }
 }
 

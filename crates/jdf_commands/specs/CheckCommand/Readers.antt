@@ -16,9 +16,9 @@ use Rattle.stored_state.specs.Opened.{any_state_read}
 use Rattle.jdf_commands.specs.EditCommand.Document.{document_read}
 
 -- an answer without what was read
-abbrev pub bare : {A : Type 0} → Result A Refusal → Result ⊤ Refusal
-bare (Ok x) = Ok tt
-bare (Err e) = Err e
+abbrev pub bare_answer : {A : Type 0} → Result A Refusal → Result ⊤ Refusal
+bare_answer (Ok x) = Ok tt
+bare_answer (Err e) = Err e
 
 -- the one, and the other where the one is of another form
 abbrev pub or_else : Result ⊤ Refusal → Result ⊤ Refusal → Result ⊤ Refusal
@@ -27,17 +27,17 @@ or_else one other = one
 
 -- what an order is read as: a master's, or else a worker's
 abbrev pub order_read : Data → Result ⊤ Refusal
-order_read d = or_else (bare (master_order_read d)) (bare (worker_order_read d))
+order_read d = or_else (bare_answer (master_order_read d)) (bare_answer (worker_order_read d))
 
 -- what data of a kind is read as
-abbrev pub read_as : Kind → Data → Result ⊤ Refusal
-read_as kinds.Ticket d = bare (ticket_read d)
-read_as kinds.Edits d = bare (document_read d)
-read_as kinds.Order d = order_read d
-read_as kinds.Message d = bare (message_read d)
-read_as kinds.Script d = bare (script_read d)
-read_as kinds.Opening d = bare (opening_read d)
-read_as kinds.State d = bare (any_state_read d)
+abbrev pub answer_of_kind : Kind → Data → Result ⊤ Refusal
+answer_of_kind kinds.Ticket d = bare_answer (ticket_read d)
+answer_of_kind kinds.Edits d = bare_answer (document_read d)
+answer_of_kind kinds.Order d = order_read d
+answer_of_kind kinds.Message d = bare_answer (message_read d)
+answer_of_kind kinds.Script d = bare_answer (script_read d)
+answer_of_kind kinds.Opening d = bare_answer (opening_read d)
+answer_of_kind kinds.State d = bare_answer (any_state_read d)
 
 -- bytes are read, or refused so, as their data is, or as no JSON; or memory ran out
 abbrev pub IsAnswer : (Data → Result ⊤ Refusal) → List ℕ → Result ⊤ Refusal → Type 0

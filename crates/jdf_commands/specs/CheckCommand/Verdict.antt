@@ -13,7 +13,7 @@ use Rattle.ticket_items.specs.declared.refusal.Refusal.TheVariants.{Memory}
 use Rattle.fault_finder.specs.declared.kind.Kind.{Kind}
 use Rattle.fault_finder.specs.declared.place.Place.{Place}
 use Rattle.jdf_commands.specs.CheckCommand.Kinds.{kind_in}
-use Rattle.jdf_commands.specs.CheckCommand.Readers.{IsAnswer, read_as}
+use Rattle.jdf_commands.specs.CheckCommand.Readers.{IsAnswer, answer_of_kind}
 use Rattle.jdf_commands.specs.FileCommands.Answers.{named_number}
 
 -- the line of a place, with the number and the name of what is refused there
@@ -58,7 +58,7 @@ IsOfKind (Some said) bytes kind = kind ≡ said
 -- which isn't for want of memory
 abbrev pub IsVerdictOn : Kind → Bool → List ℕ → List ℕ → Bool → Type 0
 IsVerdictOn kind all bytes text refused = (answer : Result ⊤ Refusal)
-    × IsAnswer (read_as kind) bytes answer × (answer ≢ Err Memory) × IsTold all answer text refused
+    × IsAnswer (answer_of_kind kind) bytes answer × (answer ≢ Err Memory) × IsTold all answer text refused
 
 -- the same of bytes of the kind that is said, or that their members tell
 abbrev pub IsVerdict : Option Kind → Bool → List ℕ → List ℕ → Bool → Type 0

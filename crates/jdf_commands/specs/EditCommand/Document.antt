@@ -7,11 +7,11 @@ use Rattle.serde_json.specs.Find.{get}
 use Rattle.ticket_items.specs.declared.edit.Edit.{Edit}
 use Rattle.ticket_items.specs.declared.refusal.Refusal.{Refusal}
 use Rattle.json_profile.specs.ReadAs as bytes
-use Rattle.json_items.specs.Edits.{edit_draft, edit_has_names, edit_has_texts}
-use Rattle.json_items.specs.Judged.{built_of, first_fault, judged}
+use Rattle.json_items.specs.Edits.{edit_form, edit_has_names, edit_has_texts}
+use Rattle.json_items.specs.Validation.{built_value, checked_draft, first_fault}
 use Rattle.json_items.specs.Listed.{list_form}
 use Rattle.json_items.specs.TicketForm.{has_names, has_texts, built_fault}
-use Rattle.json_source.specs.Read.{◌>>=◌, provided, has_only, number_under}
+use Rattle.json_source.specs.Read.{◌>>=◌, some_if, has_only, number_under}
 use Rattle.controller_form.specs.Openings.ShopForm.{ticket_under}
 use Rattle.jdf_commands.specs.declared.edit_command.document.Document.{Document}
 use Rattle.jdf_commands.specs.declared.edit_command.raw_document.RawDocument.{RawDocument}
@@ -21,12 +21,12 @@ document_members = codes "At" ∷ codes "Edits" ∷ codes "Ticket" ∷ []
 
 -- the drafts of what stands under `Edits`
 abbrev pub edits_under : Data → Option (List Edit)
-edits_under d = option_and_then (list_form edit_draft) (get (codes "Edits") d)
+edits_under d = option_and_then (list_form edit_form) (get (codes "Edits") d)
 
 -- what the data is by its members and their kinds
-unfoldable pub document_draft : Data → Option RawDocument
-document_draft d = do
-  _ ← provided (has_only document_members d)
+unfoldable pub document_form : Data → Option RawDocument
+document_form d = do
+  _ ← some_if (has_only document_members d)
   at ← number_under (codes "At") d
   edits ← edits_under d
   ticket ← ticket_under d
@@ -51,7 +51,7 @@ document_of doc = record { at = doc.at; edits = doc.edits; ticket = doc.ticket.j
 -- before the next one of either
 abbrev pub document_read : Data → Result Document Refusal
 document_read d =
-    built_of document_has_names document_has_texts late_fault document_of (document_draft d)
+    built_value document_has_names document_has_texts late_fault document_of (document_form d)
 
 -- the bytes are JSON that is read so
 abbrev pub IsReadAs : List ℕ → Result Document Refusal → Type 0
@@ -65,5 +65,5 @@ IsRefusalOf input e = bytes.IsRefusalOf document_read input e
 abbrev pub IsReadRaw : List ℕ → Result RawDocument Refusal → Type 0
 IsReadRaw input answer =
     bytes.IsReadAs
-    (λ d. judged (first_fault document_has_names document_has_texts) (document_draft d)) input
+    (λ d. checked_draft (first_fault document_has_names document_has_texts) (document_form d)) input
     answer

@@ -3,7 +3,7 @@ use Rattle.std.specs.Prelude.{◌≡◌, ℕ, Bool, List, [], ◌∷◌, ◌++�
 use Rattle.std.specs.Prelude.{Ok, ◌⊎◌}
 use Rattle.std.specs.List.{flat_map, list_any}
 use Rattle.serde_json.specs.Written.{compact_text}
-use Rattle.ticket_rows.specs.Edit.{refusal_of, edited}
+use Rattle.ticket_rows.specs.Edit.{job_after_edit, refusal_of}
 use Rattle.ticket_rows.specs.Ticket.{Job}
 use Rattle.ticket_items.specs.declared.edit.Edit.{Edit}
 use Rattle.ticket_items.specs.declared.refusal.Refusal.{Refusal}
@@ -23,7 +23,7 @@ IsOutcome e t outcome =
 
 -- the ticket after an edit: a refusal changes nothing
 abbrev pub after : Option Refusal → Edit → ℕ → Job → Job
-after None e at t = edited e at t
+after None e at t = job_after_edit e at t
 after (Some r) e at t = t
 
 -- the edit's line

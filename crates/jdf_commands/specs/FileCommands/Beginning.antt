@@ -9,7 +9,7 @@ use Rattle.controller_form.specs.Openings.OpeningForm.{opening_read}
 use Rattle.controller_form.specs.declared.openings.opening.Opening.{Opening}
 use Rattle.controller_form.specs.declared.openings.opening.Opening.TheVariants as opening
 use Rattle.stored_state.specs.Addressee.{is_addressed}
-use Rattle.stored_state.specs.Held.{Held}
+use Rattle.stored_state.specs.Held.{KeptState}
 use Rattle.stored_state.specs.declared.addressee.Addressee.{Addressee}
 use Rattle.stored_state.specs.declared.any_controller.AnyController.{AnyController}
 use Rattle.stored_state.specs.declared.any_controller.AnyController.TheVariants.{Master as of_master}
@@ -24,7 +24,7 @@ controller_of (opening.Worker w) = of_worker w
 -- a new controller stands beside its keeper, in the same place, which holds its state if it is
 -- honest
 pub record IsBegun {C K : Type 0} (is_honest : K → Bool) (held place : K → List ℕ)
-    (state_text : C → List ℕ) (keep : K) (controller : C) (kept : Held C K) : Type 0 where
+    (state_text : C → List ℕ) (keep : K) (controller : C) (kept : KeptState C K) : Type 0 where
   pub shown : kept.controller ≡ controller
   pub holds : is_honest kept.keep ≡ true → held kept.keep ≡ state_text controller
   pub honest : is_honest kept.keep ≡ is_honest keep
@@ -48,7 +48,7 @@ IsNoBeginning to bytes fault = ⊥
 
 -- the controller that the bytes begin stands so beside its keeper
 pub record IsBegunAs {K : Type 0} (is_honest : K → Bool) (held place : K → List ℕ) (keep : K)
-    (to : Addressee) (bytes : List ℕ) (kept : Held AnyController K) : Type 0 where
+    (to : Addressee) (bytes : List ℕ) (kept : KeptState AnyController K) : Type 0 where
   pub controller : AnyController
   pub beginning : IsBeginning to bytes controller
   pub begun : IsBegun is_honest held place text_of keep controller kept

@@ -6,8 +6,8 @@ use Rattle.streams.specs.declared.refused.Refused.TheVariants.{SaveFailed}
 use Rattle.streams.specs.declared.fault.Fault.{Fault}
 use Rattle.streams.specs.declared.fault.Fault.TheVariants.{Device}
 use Rattle.streams.specs.Ends.{IsUnread}
-use Rattle.streams.specs.Streams.{IsInput, IsUntouched, Use}
-use Rattle.stored_state.specs.Held.{Held}
+use Rattle.streams.specs.Streams.{IsInput, IsUntouched, Traffic}
+use Rattle.stored_state.specs.Held.{KeptState}
 use Rattle.stored_state.specs.declared.addressee.Addressee.{Addressee}
 use Rattle.stored_state.specs.declared.any_controller.AnyController.{AnyController}
 use Rattle.stored_state.specs.declared.any_controller.AnyController.TheVariants.{Master as of_master}
@@ -30,7 +30,7 @@ Steps = List ℕ → AnyController → TextStep AnyController → Type 0
 
 -- `new` where there is no controller yet: what the input begins is held, and nothing is written
 pub record Begins {K : Type 0} (is_honest : K → Bool) (held place : K → List ℕ) (is_there : Bool)
-    (keep : K) (to : Addressee) (input : Use) (after : Held AnyController K) (text : List ℕ)
+    (keep : K) (to : Addressee) (input : Traffic) (after : KeptState AnyController K) (text : List ℕ)
     (refused : Bool) : Type 0 where
   pub absent : is_there ≡ false
   pub bytes : List ℕ
@@ -41,7 +41,7 @@ pub record Begins {K : Type 0} (is_honest : K → Bool) (held place : K → List
 
 -- why `new` gives up: there is a controller already, and the input isn't read; or the input isn't,
 -- or it begins none
-abbrev pub BeginsNone : {K : Type 0} → (K → List ℕ → K → Type 0) → Bool → K → Addressee → Use
+abbrev pub BeginsNone : {K : Type 0} → (K → List ℕ → K → Type 0) → Bool → K → Addressee → Traffic
     → Fault → Type 0
 BeginsNone save_fails true keep to input fault = IsUntouched input × (fault ≡ Device SaveFailed)
 BeginsNone save_fails false keep to input fault =
@@ -53,25 +53,25 @@ BeginsNone save_fails false keep to input fault =
 -- the step that the bytes are, of the controller that was held, is saved, and this is given out:
 -- what is replied, and the text that goes out; all in the same place
 pub record GivesHeld {K : Type 0} (is_honest : K → Bool) (held place : K → List ℕ) (IsStep : Steps)
-    (bytes : List ℕ) (keep : K) (after : Held AnyController K) (reply : Result Reply Refusal)
+    (bytes : List ℕ) (keep : K) (after : KeptState AnyController K) (reply : Result Reply Refusal)
     (sent : Option (List ℕ)) : Type 0 where
-  pub before : Held AnyController K
+  pub before : KeptState AnyController K
   pub loaded : IsLoaded is_honest held place keep before
   pub gives : GivesStep is_honest held text_of (IsStep bytes before.controller) after reply sent
   pub honest : is_honest after.keep ≡ is_honest keep
   pub placed : place after.keep ≡ place keep
 
 -- the same of the input
-abbrev pub GivesStepOf : {K : Type 0} → (K → Bool) → (K → List ℕ) → (K → List ℕ) → Steps → K → Use
-    → Held AnyController K → Result Reply Refusal → Option (List ℕ) → Type 0
+abbrev pub GivesStepOf : {K : Type 0} → (K → Bool) → (K → List ℕ) → (K → List ℕ) → Steps → K → Traffic
+    → KeptState AnyController K → Result Reply Refusal → Option (List ℕ) → Type 0
 GivesStepOf is_honest held place IsStep keep input after reply sent =
     (bytes : List ℕ) × IsInput input bytes
     × GivesHeld is_honest held place IsStep bytes keep after reply sent
 
 -- a step is given out so, which leaves this state, and what the step and that have noted is noted
-pub record GivesNoting {K : Type 0} (Gives : Held AnyController K → Type 0)
+pub record GivesNoting {K : Type 0} (Gives : KeptState AnyController K → Type 0)
     (notes_behind : AnyController → List ℕ) (notes : List ℕ) : Type 0 where
-  pub after : Held AnyController K
+  pub after : KeptState AnyController K
   pub given : Gives after
   pub noted : notes ≡ notes_behind after.controller
 
@@ -82,19 +82,19 @@ abbrev pub DoesNoStep : {K : Type 0} → (K → Bool) → (K → List ℕ) → (
     → (List ℕ → AnyController → Refusal → Type 0) → Steps → List ℕ → K → Fault → Type 0
 DoesNoStep {K = K} is_honest held place count load_fails save_fails Refuses IsStep bytes keep fault =
     IsNotLoaded is_honest held load_fails keep fault
-    ⊎ ((before : Held AnyController K) × IsLoaded is_honest held place keep before
-    × (after : Held AnyController K)
+    ⊎ ((before : KeptState AnyController K) × IsLoaded is_honest held place keep before
+    × (after : KeptState AnyController K)
     × GivesNoOutput is_honest held count save_fails text_of (Refuses bytes before.controller)
     (IsStep bytes before.controller) before after fault)
 
 -- `order` and `take`: such a step is given out, its lines are written, this tells whether it was
 -- refused, and what its reply and the state then have noted is noted
 pub record DoesStep {K : Type 0} (is_honest : K → Bool) (held place : K → List ℕ) (IsStep : Steps)
-    (notes_behind : Result Reply Refusal → AnyController → List ℕ) (keep : K) (input : Use)
+    (notes_behind : Result Reply Refusal → AnyController → List ℕ) (keep : K) (input : Traffic)
     (text : List ℕ) (refused : Bool) (notes : List ℕ) : Type 0 where
   pub reply : Result Reply Refusal
   pub sent : Option (List ℕ)
-  pub after : Held AnyController K
+  pub after : KeptState AnyController K
   pub given : GivesStepOf is_honest held place IsStep keep input after reply sent
   pub written : text ≡ step_lines reply sent
   pub told : refused ≡ is_refused reply
@@ -112,14 +112,14 @@ abbrev pub IsMoment : Option ℕ → ℕ → Type 0
 IsMoment at now = IfSome at (λ n. now ≡ n)
 
 -- what a controller shows, or its picture at a moment
-abbrev pub shown_as : Bool → ℕ → AnyController → List ℕ
-shown_as picture now c = if picture then picture_text now c else shown_text c
+abbrev pub output_text : Bool → ℕ → AnyController → List ℕ
+output_text picture now c = if picture then picture_text now c else shown_text c
 
 -- `show`: what the controller that was held shows, or its picture, and what it has noted
 pub record Shows {K : Type 0} (picture : Bool) (now : ℕ) (is_honest : K → Bool)
     (held place : K → List ℕ) (keep : K) (text : List ℕ) (refused : Bool) (notes : List ℕ) : Type 0 where
-  pub opened : Held AnyController K
+  pub opened : KeptState AnyController K
   pub loaded : IsLoaded is_honest held place keep opened
-  pub shown : text ≡ shown_as picture now opened.controller
+  pub shown : text ≡ output_text picture now opened.controller
   pub accepted : refused ≡ false
   pub noted : notes ≡ notes_of opened.controller

@@ -12,10 +12,10 @@ use Rattle.keepers.specs.InFile.{InFile}
 use Rattle.keepers.specs.OnDisk.{OnDisk}
 use Rattle.stored_state.specs.Addressee.{name_of}
 use Rattle.stored_state.specs.AnyStep.{IsOrdered}
-use Rattle.stored_state.specs.Held.{Held}
+use Rattle.stored_state.specs.Held.{KeptState}
 use Rattle.stored_state.specs.declared.any_controller.AnyController.{AnyController}
-use Rattle.streams.specs.Streams.{IsInput, Use}
-use Rattle.jdf_commands.specs.Files.{held, is_honest, place}
+use Rattle.streams.specs.Streams.{IsInput, Traffic}
+use Rattle.jdf_commands.specs.Files.{file_bytes, is_honest, place}
 use Rattle.jdf_commands.specs.FileCommands.Commands.{GivesHeld}
 
 -- the line of a step at the controller of a name, at a time, by the order that the bytes are, which
@@ -36,12 +36,12 @@ pub record IsMessageLine (name : List ℕ) (at : ℕ) (bytes : List ℕ) (reply 
 -- the step of the order that the input is, of the controller that was held, is saved; and what it
 -- replied stands in the journal, unless that is a refusal
 pub record OrdersJournaled {J : Type 0} (held_by : J → List ℕ) (is_missed : J → Bool) (at : ℕ)
-    (keep : InFile OnDisk) (input : Use) (reply : Result Reply Refusal) (sent : Option (List ℕ))
+    (keep : InFile OnDisk) (input : Traffic) (reply : Result Reply Refusal) (sent : Option (List ℕ))
     (old new : J) : Type 0 where
   pub bytes : List ℕ
   pub is_input : IsInput input bytes
-  pub after : Held AnyController (InFile OnDisk)
-  pub gives : GivesHeld is_honest held place (IsOrdered at) bytes keep after reply sent
+  pub after : KeptState AnyController (InFile OnDisk)
+  pub gives : GivesHeld is_honest file_bytes place (IsOrdered at) bytes keep after reply sent
   pub by : Option (List ℕ)
   pub lines :
       IsJournaled held_by is_missed (IsOrderLine by (name_of after.controller) at bytes) reply old

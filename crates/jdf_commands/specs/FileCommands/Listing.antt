@@ -14,18 +14,18 @@ use Rattle.streams.specs.Fault.{fault_line}
 use Rattle.streams.specs.declared.refused.Refused.TheVariants.{OtherName}
 use Rattle.streams.specs.declared.fault.Fault.{Fault}
 use Rattle.streams.specs.declared.fault.Fault.TheVariants.{Device}
-use Rattle.jdf_commands.specs.Files.{held, is_honest, IsNotOpened, kept_in}
+use Rattle.jdf_commands.specs.Files.{IsNotOpened, file_bytes, is_honest, keep_in_file}
 use Rattle.jdf_commands.specs.FileCommands.Opening.{IsHeldBy}
-use Rattle.jdf_commands.specs.declared.file_commands.asked.Asked.{Asked}
-use Rattle.jdf_commands.specs.declared.file_commands.listed.Listed.{Listed}
+use Rattle.jdf_commands.specs.declared.file_commands.asked.ListRequest.{ListRequest}
+use Rattle.jdf_commands.specs.declared.file_commands.listed.FileLists.{FileLists}
 
 -- the lines of a controller's works that are open, or of all others
-abbrev pub lines_of : Bool → Asked → AnyController → List ℕ
+abbrev pub lines_of : Bool → ListRequest → AnyController → List ℕ
 lines_of are_open a (of_master m) = master_list are_open a.is_json a.now m
 lines_of are_open a (of_worker w) = worker_list are_open a.is_json a.now w
 
 -- those of all others, unless only what is open is wanted
-abbrev pub other_lines : Asked → AnyController → List ℕ
+abbrev pub other_lines : ListRequest → AnyController → List ℕ
 other_lines a c = if a.is_open then [] else lines_of false a c
 
 -- what stands above the lines: nothing where they are JSON
@@ -33,14 +33,14 @@ abbrev pub head_of : Bool → List ℕ
 head_of is_json = if is_json then [] else HEAD_LINE.now
 
 -- the list of controllers: what is open at each, and then all others of each
-unfoldable pub list_of : Asked → List AnyController → List ℕ
+unfoldable pub list_of : ListRequest → List AnyController → List ℕ
 list_of a cs = head_of a.is_json ++ flat_map (lines_of true a) cs ++ flat_map (other_lines a) cs
 
 -- `list` of a file: the list of the controller that was held, and nothing is noted
-pub record ListsOne {K : Type 0} (a : Asked) (is_honest : K → Bool) (held : K → List ℕ) (keep : K)
+pub record ListsOne {K : Type 0} (a : ListRequest) (is_honest : K → Bool) (file_bytes : K → List ℕ) (keep : K)
     (text : List ℕ) (refused : Bool) (notes : List ℕ) : Type 0 where
   pub controller : AnyController
-  pub is_held : IsHeldBy is_honest held keep controller
+  pub is_held : IsHeldBy is_honest file_bytes keep controller
   pub listed : text ≡ list_of a (controller ∷ [])
   pub accepted : refused ≡ false
   pub noted : notes ≡ []
@@ -53,7 +53,7 @@ path_of f = string_bytes f.path
 
 -- the file holds this controller, which is the one that it is for
 abbrev pub IsOwn : FolderFile → AnyController → Type 0
-IsOwn f c = IsHeldBy is_honest held (kept_in (path_of f)) c × (is_owner f.owner c ≡ true)
+IsOwn f c = IsHeldBy is_honest file_bytes (keep_in_file (path_of f)) c × (is_owner f.owner c ≡ true)
 
 -- why a file isn't listed: there is no controller at hand of it, or it holds one of another name
 abbrev pub IsNotOwn : FolderFile → Fault → Type 0
@@ -97,7 +97,7 @@ notes_of (f ∷ fs) [] = []
 
 -- what came of a file is listed behind others: the lines of what is open and of all other, what is
 -- noted, and whether anything was refused
-pub record Adds (a : Asked) (f : FolderFile) (came : Came) (old new : Listed) : Type 0 where
+pub record Adds (a : ListRequest) (f : FolderFile) (came : Came) (old new : FileLists) : Type 0 where
   pub first : new.lists.first.items
       ≡ old.lists.first.items ++ flat_map (lines_of true a) (controller_in came)
   pub rest : new.lists.rest.items
@@ -107,7 +107,7 @@ pub record Adds (a : Asked) (f : FolderFile) (came : Came) (old new : Listed) : 
 
 -- `list` of files: the list of the controllers that came of them; each other file is noted, and
 -- where there is any such, something was refused
-pub record ListsFiles (a : Asked) (files : List FolderFile) (text : List ℕ) (refused : Bool)
+pub record ListsFiles (a : ListRequest) (files : List FolderFile) (text : List ℕ) (refused : Bool)
     (notes : List ℕ) : Type 0 where
   pub came : List Came
   pub of_files : AreOf files came
@@ -116,8 +116,8 @@ pub record ListsFiles (a : Asked) (files : List FolderFile) (text : List ℕ) (r
   pub noted : notes ≡ notes_of files came
 
 -- `list` of a path: of the controller in the file, or of those in the files of a folder
-abbrev pub ListsAt : Asked → List ℕ → List ℕ → Bool → List ℕ → Type 0
+abbrev pub ListsAt : ListRequest → List ℕ → List ℕ → Bool → List ℕ → Type 0
 ListsAt a path text refused notes =
-    ListsOne a is_honest held (kept_in path) text refused notes
+    ListsOne a is_honest file_bytes (keep_in_file path) text refused notes
     ⊎ ((files : List FolderFile) × All (LiesIn path) files
     × ListsFiles a files text refused notes)

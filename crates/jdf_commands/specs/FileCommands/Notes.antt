@@ -5,7 +5,7 @@ use Rattle.std.specs.List.{flat_map}
 use Rattle.serde_json.specs.Written.{compact_text}
 use Rattle.ticket_items.specs.SpawnId.{spawn_text}
 use Rattle.ticket_items.specs.declared.refusal.Refusal.{Refusal}
-use Rattle.ticket_tree.specs.Part.{Copied}
+use Rattle.ticket_tree.specs.Part.{PartCopy}
 use Rattle.json_text.specs.PartWritten.{part_data}
 use Rattle.controller.specs.declared.reply.Reply.{Reply}
 use Rattle.controller.specs.declared.reply.Reply.TheVariants.{Edited}
@@ -14,11 +14,11 @@ use Rattle.stored_state.specs.declared.any_controller.AnyController.{AnyControll
 use Rattle.stored_state.specs.declared.any_controller.AnyController.TheVariants.{Master as of_master}
 use Rattle.stored_state.specs.declared.any_controller.AnyController.TheVariants.{Worker as of_worker}
 use Rattle.streams.specs.Ends.{GivesOut}
-use Rattle.streams.specs.Streams.{Stream, Use, Writes, WritesFront}
+use Rattle.streams.specs.Streams.{Stream, Traffic, Writes, WritesFront}
 use Rattle.jdf_commands.specs.declared.file_commands.notes.TheConstants.{LARGE_PART_BYTES, MESSAGE_BYTES}
 
 -- how many bytes the text of a part has
-abbrev pub part_size : Copied → ℕ
+abbrev pub part_size : PartCopy → ℕ
 part_size p = length (compact_text (part_data p))
 
 -- the note on the part of a spawn, which has so many bytes
@@ -28,7 +28,7 @@ note_of spawn size =
     ++ codes " bytes; over HTTP a message has " ++ decimal MESSAGE_BYTES ++ codes " at most" ++ 10 ∷ []
 
 -- the note on the part of a spawn, if there is one, and it is large
-abbrev pub part_note : ℕ → Option Copied → List ℕ
+abbrev pub part_note : ℕ → Option PartCopy → List ℕ
 part_note spawn None = []
 part_note spawn (Some p) =
     if nat_le LARGE_PART_BYTES (part_size p) then note_of spawn (part_size p) else []
@@ -57,11 +57,11 @@ no_notes reply c = []
 -- ---- how they are told
 
 -- the notes are told, or a front of them where a write failed
-abbrev pub TellsNotes : List ℕ → Use → Type 0
+abbrev pub TellsNotes : List ℕ → Traffic → Type 0
 TellsNotes notes told = Writes told notes ⊎ WritesFront told notes
 
 -- the output is given out, and the notes are told behind it
-abbrev pub GivesOutNoting : List ℕ → Bool → List ℕ → Use → Use → ℕ → Type 0
+abbrev pub GivesOutNoting : List ℕ → Bool → List ℕ → Traffic → Traffic → ℕ → Type 0
 GivesOutNoting text refused notes output told status =
     (tells : Stream)
     × GivesOut text refused output (record { before = told.before; after = tells }) status

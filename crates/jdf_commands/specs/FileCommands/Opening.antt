@@ -4,13 +4,13 @@ use Rattle.json_profile.specs.ReadAs.{IsReadAs, IsRefusalOf}
 use Rattle.streams.specs.declared.refused.Refused.TheVariants.{Core, LoadFailed}
 use Rattle.streams.specs.declared.fault.Fault.{Fault}
 use Rattle.streams.specs.declared.fault.Fault.TheVariants.{Device}
-use Rattle.stored_state.specs.Held.{Held, HoldsSame}
+use Rattle.stored_state.specs.Held.{HoldsSame, KeptState}
 use Rattle.stored_state.specs.declared.any_controller.AnyController.{AnyController}
 use Rattle.stored_state.specs.Opened.{any_state_read}
 
 -- the controller stands beside the keeper that held its state, in the same place, and holds it on
 pub record IsLoaded {K : Type 0} (is_honest : K → Bool) (held place : K → List ℕ) (keep : K)
-    (opened : Held AnyController K) : Type 0 where
+    (opened : KeptState AnyController K) : Type 0 where
   pub shown : is_honest keep ≡ true
       → IsReadAs any_state_read (held keep) (Ok opened.controller)
   pub same : HoldsSame is_honest held keep opened.keep

@@ -3,7 +3,7 @@ use Rattle.std.specs.Prelude.{ℕ, List, [], ◌∷◌, ◌++◌, codes, Option,
 use Rattle.std.specs.List.{flat_map}
 use Rattle.serde_json.specs.Written.{compact_text}
 use Rattle.ticket_items.specs.SpawnId.{spawn_text}
-use Rattle.ticket_tree.specs.Part.{Copied}
+use Rattle.ticket_tree.specs.Part.{PartCopy}
 use Rattle.json_text.specs.PartWritten.{part_data}
 pub use Rattle.controller_form.specs.ShownMaster.{master_text}
 use Rattle.worker_core.specs.Worker as worker
@@ -23,7 +23,7 @@ abbrev pub entry_head : ℕ → List ℕ → List ℕ
 entry_head spawn words = spawn_text spawn ++ codes " " ++ words
 
 -- the text of a part, if there is one, with a space before it
-abbrev pub part_tail : Option Copied → List ℕ
+abbrev pub part_tail : Option PartCopy → List ℕ
 part_tail None = []
 part_tail (Some p) = codes " " ++ compact_text (part_data p)
 
@@ -36,5 +36,5 @@ abbrev pub entry_lines : List Entry → List ℕ
 entry_lines entries = flat_map entry_line entries
 
 -- what a worker shows: its entries, in the order in which their parts were taken or declined
-abbrev pub worker_text : worker.Known → List ℕ
+abbrev pub worker_text : worker.State → List ℕ
 worker_text w = entry_lines w.entries

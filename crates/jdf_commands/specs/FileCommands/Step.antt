@@ -10,7 +10,7 @@ use Rattle.streams.specs.declared.refused.Refused.{Refused as CallRefused}
 use Rattle.streams.specs.declared.refused.Refused.TheVariants.{Core}
 use Rattle.streams.specs.declared.fault.Fault.{Fault}
 use Rattle.streams.specs.declared.fault.Fault.TheVariants.{Input, Device}
-use Rattle.stored_state.specs.Held.{GivesNothing, Held}
+use Rattle.stored_state.specs.Held.{GivesNothing, KeptState}
 use Rattle.stored_state.specs.Step.{IsLeft, SavesStep, TextStep}
 
 -- ---- what is written
@@ -47,7 +47,7 @@ fault_of other = Device other
 -- was saved
 abbrev pub GivesNoOutput : {C K : Type 0} → (K → Bool) → (K → List ℕ) → (K → ℕ)
     → (K → List ℕ → K → Type 0) → (C → List ℕ) → (Refusal → Type 0) → (TextStep C → Type 0)
-    → Held C K → Held C K → Fault → Type 0
+    → KeptState C K → KeptState C K → Fault → Type 0
 GivesNoOutput is_honest held count save_fails state_text Refuses IsStep old new fault =
     ((refused : CallRefused) × (fault ≡ fault_of refused)
     × GivesNothing is_honest held count save_fails Refuses (IsLeft state_text IsStep)

@@ -3,9 +3,9 @@ use Rattle.std.specs.Prelude.{◌≡◌, ℕ, Bool, false, List, [], ◌∷◌, 
 use Rattle.std.specs.List.{flat_map}
 use Rattle.serde_json.specs.Written.{compact_text}
 use Rattle.json_text.specs.Written.{shown_data}
-use Rattle.world.specs.Replay.{Shown, after_all, answers_to, opening}
+use Rattle.world.specs.Replay.{TaggedShop, after_all, answers_to, opening}
 use Rattle.world.specs.SeenTicket.{ticket_seen}
-use Rattle.world.specs.Shop.{Shop}
+use Rattle.world.specs.Shop.{PlainState}
 use Rattle.world.specs.ShopMarks.{shop_marks}
 use Rattle.world_items.specs.declared.answer.Answer.{Answer}
 use Rattle.world_items.specs.declared.event.Event.{Event}
@@ -14,8 +14,8 @@ use Rattle.world_script.specs.Script.{IsReadAs}
 use Rattle.world_script.specs.declared.script.Script.{Script}
 
 -- the shop of a script before anything happened: its master holds all
-abbrev pub opened : Script → Shown
-opened s = opening s.master s.workers s.ticket
+abbrev pub shop_of_script : Script → TaggedShop
+shop_of_script s = opening s.master s.workers s.ticket
 
 -- the line of an answer, and a line for each of several
 abbrev pub line_of : Answer → List ℕ
@@ -26,16 +26,16 @@ lines answers = flat_map line_of answers
 
 -- the text of the ticket that a shop's master sees, with what it shows of the spawns that are out,
 -- and the end of its line
-abbrev pub shown_text : Shop → List ℕ
+abbrev pub shown_text : PlainState → List ℕ
 shown_text p = compact_text (shown_data (shop_marks p) (ticket_seen p)) ++ 10 ∷ []
 
 -- what is written for events in a shop: a line for each, and the text of the ticket at the end
-abbrev pub written_of : List Event → Shown → List ℕ
-written_of events p = lines (answers_to events p) ++ shown_text (after_all events p).shop
+abbrev pub run_text : List Event → TaggedShop → List ℕ
+run_text events p = lines (answers_to events p) ++ shown_text (after_all events p).shop
 
 -- what is written for a script
 abbrev pub output_of : Script → List ℕ
-output_of s = written_of s.events (opened s)
+output_of s = run_text s.events (shop_of_script s)
 
 -- for this input, read as a script, this is written. Refused events are lines as any others
 abbrev pub IsOutput : List ℕ → List ℕ → Bool → Type 0

@@ -8,8 +8,9 @@ ghost use Rattle.controller_form.specs.Orders.WorkerForm.{worker_order_read};
 ghost use Rattle.world_script.specs.Script.{script_read};
 ghost use Rattle.stored_state.specs.Opened.{any_state_read};
 ghost use Rattle.jdf_commands.specs.EditCommand.Document.{document_read};
-ghost use Rattle.jdf_commands.specs.CheckCommand.Readers.{IsAnswer, bare, order_read, read_as};
-ghost use Rattle.json_items.specs.Judged.{Answers};
+ghost use Rattle.jdf_commands.specs.CheckCommand.Readers.{IsAnswer, answer_of_kind, bare_answer};
+ghost use Rattle.jdf_commands.specs.CheckCommand.Readers.{order_read};
+ghost use Rattle.json_items.specs.Validation.{Answers};
 
 use crate::edit_command::check_document;
 use controller_form::{StateForm, master_order_of, opening_of, worker_order_of};
@@ -28,17 +29,17 @@ use world_script::script_of;
 /// What the reader of tickets answers.
 #[tactic(auto, using(crate::proofs::Readers::bared))]
 fn read_ticket(alloc: Global, bytes: &[u8]) -> Result<(), Refusal>
-    ensures { IsAnswer (λ d. bare (ticket_read d)) bytes.now result }
+    ensures { IsAnswer (λ d. bare_answer (ticket_read d)) bytes.now result }
 {
     let mut scratch = Scratch::new(alloc);
     let tree = tree_of(alloc, bytes, &mut scratch)?;
-    RawTicket::whole(alloc, &tree)?;
+    RawTicket::read_whole(alloc, &tree)?;
     Ok(())
 }
 
 /// What the reader of a master's orders answers.
 fn master_order_in<S: Source>(alloc: Global, value: &S) -> Result<(), Refusal>
-    ensures { Answers result (bare (master_order_read (S.content value.now))) }
+    ensures { Answers result (bare_answer (master_order_read (S.content value.now))) }
 {
     master_order_of(alloc, value)?;
     Ok(())
@@ -46,7 +47,7 @@ fn master_order_in<S: Source>(alloc: Global, value: &S) -> Result<(), Refusal>
 
 /// What the reader of a worker's orders answers.
 fn worker_order_in<S: Source>(alloc: Global, value: &S) -> Result<(), Refusal>
-    ensures { Answers result (bare (worker_order_read (S.content value.now))) }
+    ensures { Answers result (bare_answer (worker_order_read (S.content value.now))) }
 {
     worker_order_of(alloc, value)?;
     Ok(())
@@ -74,7 +75,7 @@ fn read_order(alloc: Global, bytes: &[u8]) -> Result<(), Refusal>
 /// What the reader of messages answers.
 #[tactic(auto, using(crate::proofs::Readers::bared))]
 fn read_message(alloc: Global, bytes: &[u8]) -> Result<(), Refusal>
-    ensures { IsAnswer (λ d. bare (message_read d)) bytes.now result }
+    ensures { IsAnswer (λ d. bare_answer (message_read d)) bytes.now result }
 {
     decode(alloc, bytes)?;
     Ok(())
@@ -83,7 +84,7 @@ fn read_message(alloc: Global, bytes: &[u8]) -> Result<(), Refusal>
 /// What the reader of scripts answers.
 #[tactic(auto, using(crate::proofs::Readers::bared))]
 fn read_script(alloc: Global, bytes: &[u8]) -> Result<(), Refusal>
-    ensures { IsAnswer (λ d. bare (script_read d)) bytes.now result }
+    ensures { IsAnswer (λ d. bare_answer (script_read d)) bytes.now result }
 {
     script_of(alloc, bytes)?;
     Ok(())
@@ -92,7 +93,7 @@ fn read_script(alloc: Global, bytes: &[u8]) -> Result<(), Refusal>
 /// What the reader of openings answers.
 #[tactic(auto, using(crate::proofs::Readers::bared))]
 fn read_opening(alloc: Global, bytes: &[u8]) -> Result<(), Refusal>
-    ensures { IsAnswer (λ d. bare (opening_read d)) bytes.now result }
+    ensures { IsAnswer (λ d. bare_answer (opening_read d)) bytes.now result }
 {
     opening_of(alloc, bytes)?;
     Ok(())
@@ -100,7 +101,7 @@ fn read_opening(alloc: Global, bytes: &[u8]) -> Result<(), Refusal>
 
 /// What the reader of a value's states answers.
 fn state_in<S: Source>(alloc: Global, value: &S) -> Result<(), Refusal>
-    ensures { Answers result (bare (any_state_read (S.content value.now))) }
+    ensures { Answers result (bare_answer (any_state_read (S.content value.now))) }
 {
     match kind_of(value)? {
         Controllers::Master => {
@@ -116,7 +117,7 @@ fn state_in<S: Source>(alloc: Global, value: &S) -> Result<(), Refusal>
 
 /// What the reader of states answers.
 fn read_state(alloc: Global, bytes: &[u8]) -> Result<(), Refusal>
-    ensures { IsAnswer (λ d. bare (any_state_read d)) bytes.now result }
+    ensures { IsAnswer (λ d. bare_answer (any_state_read d)) bytes.now result }
 {
     let mut scratch = Scratch::new(alloc);
     let tree = tree_of(alloc, bytes, &mut scratch)?;
@@ -126,7 +127,7 @@ fn read_state(alloc: Global, bytes: &[u8]) -> Result<(), Refusal>
 /// What the reader of documents of a kind answers: nothing where it takes the bytes, or else what
 /// it refuses them for.
 pub(crate) fn read(alloc: Global, kind: Kind, bytes: &[u8]) -> Result<(), Refusal>
-    ensures { IsAnswer (read_as kind) bytes.now result }
+    ensures { IsAnswer (answer_of_kind kind) bytes.now result }
 {
     match kind {
         Kind::Ticket => read_ticket(alloc, bytes),

@@ -3,14 +3,14 @@
 ghost use Rattle.std.specs.Prelude.{◌≡◌, IfErr, IfOk};
 ghost use Rattle.std.specs.Option.{option_map};
 ghost use Rattle.streams.specs.Ends.{IsFaultOf, IsOutputOf};
-ghost use Rattle.streams.specs.Streams.{used};
+ghost use Rattle.streams.specs.Streams.{traffic};
 ghost use Rattle.jdf_commands.specs.CheckCommand.Run as runs;
 ghost use Rattle.jdf_commands.specs.Caused.{EndsWithCaused};
 ghost use Rattle.jdf_commands.specs.CheckCommand.Run.{EndsCheck};
 ghost use Rattle.jdf_commands.specs.CheckCommand.Verdict.{IsUnchecked, IsVerdict};
 ghost use Rattle.jdf_commands.specs.Told.{TellsText};
 
-use crate::caused::{Caused, give_up_caused};
+use crate::caused::{CausedFault, give_up_caused};
 use crate::check_command::kinds::kind_said;
 use crate::check_command::verdict::verdict_of;
 use crate::told::tell_text;
@@ -28,7 +28,7 @@ const NO_KIND_LINE: &str =
 
 /// Tells that a word names no kind, as far as `faults` takes it. Answers `NO_KIND`.
 fn tell_no_kind<F: Write>(faults: &mut Counted<F>) -> u8
-    ensures told { TellsText runs.no_kind_line (used F.contents faults.old faults.new) }
+    ensures errors { TellsText runs.no_kind_line (traffic F.contents faults.old faults.new) }
     ensures status { result ≡ NO_KIND }
 {
     tell_text(faults, NO_KIND_LINE);
@@ -43,21 +43,21 @@ fn check_output<R: Read>(
     reader: &mut Counted<R>,
 ) -> Result<Output, Fault>
     ensures done { IfOk result (λ o. IsOutputOf (IsVerdict said all)
-        (used R.remaining reader.old reader.new) o.text.items o.refused) }
+        (traffic R.remaining reader.old reader.new) o.text.items o.refused) }
     ensures refused { IfErr result
-        (IsFaultOf IsUnchecked (used R.remaining reader.old reader.new)) }
+        (IsFaultOf IsUnchecked (traffic R.remaining reader.old reader.new)) }
 {
     let input = read_input(alloc, reader)?;
     Ok(verdict_of(alloc, said, all, input)?)
 }
 
 /// A fault of the input, with where that comes from where a read failed.
-fn input_fault(alloc: Global, fault: Fault) -> Caused
+fn input_fault(alloc: Global, fault: Fault) -> CausedFault
     ensures { result.fault ≡ fault }
 {
     match fault {
-        Fault::Device(Refused::ReadFailed) => Caused::at(alloc, fault, "standard input"),
-        _ => Caused::bare(fault),
+        Fault::Device(Refused::ReadFailed) => CausedFault::at(alloc, fault, "standard input"),
+        _ => CausedFault::without_cause(fault),
     }
 }
 
@@ -71,9 +71,11 @@ fn run_said<R: Read, W: Write, F: Write>(
     writer: &mut Counted<W>,
     faults: &mut Counted<F>,
 ) -> u8
-    ensures { EndsWithCaused (IsOutputOf (IsVerdict said all) (used R.remaining reader.old reader.new))
-        (IsFaultOf IsUnchecked (used R.remaining reader.old reader.new))
-        (used W.contents writer.old writer.new) (used F.contents faults.old faults.new) result }
+    ensures { EndsWithCaused (IsOutputOf (IsVerdict said all)
+        (traffic R.remaining reader.old reader.new))
+        (IsFaultOf IsUnchecked (traffic R.remaining reader.old reader.new))
+        (traffic W.contents writer.old writer.new)
+        (traffic F.contents faults.old faults.new) result }
 {
     match check_output(alloc, said, all, reader) {
         Ok(output) => finish(Ok(output), writer, faults),
@@ -107,8 +109,8 @@ pub fn run_check<R: Read, W: Write, F: Write>(
     // Not proved: where in the bytes a refusal is, and what is told of others: `.ci/places.py`
     // tries it.
     ensures { EndsCheck (option_map (λ word. word.now) kind.entry) all
-        (used R.remaining reader.old reader.new) (used W.contents writer.old writer.new)
-        (used F.contents faults.old faults.new) result }
+        (traffic R.remaining reader.old reader.new) (traffic W.contents writer.old writer.new)
+        (traffic F.contents faults.old faults.new) result }
 {
     match kind_said(kind) {
         Some(said) => run_said(alloc, said, all, reader, writer, faults),

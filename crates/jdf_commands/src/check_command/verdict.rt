@@ -144,7 +144,7 @@ fn lines_behind(
 }
 
 /// All of the places, where all is asked for, or else the first alone.
-fn wanted(places: &[Place], all: bool) -> &[Place]
+fn places_asked_for(places: &[Place], all: bool) -> &[Place]
     ensures { all ≡ false → length result.now ≤ 1 }
 {
     if all {
@@ -167,7 +167,7 @@ fn lines(
 {
     let limit = if all { MAX_PLACES } else { 1 };
     let places = places_of(alloc, kind, bytes, *refusal, limit)?;
-    let mut text = refused_lines(alloc, refusal, wanted(places.as_slice(), all))?;
+    let mut text = refused_lines(alloc, refusal, places_asked_for(places.as_slice(), all))?;
     let others = lines_behind(alloc, kind, bytes, refusal, all)?;
     text.extend_from_slice(others.as_slice())?;
     Ok(text)

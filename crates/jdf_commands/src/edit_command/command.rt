@@ -1,7 +1,7 @@
 //! The command `edit`.
 
 ghost use Rattle.streams.specs.Ends.{Ends};
-ghost use Rattle.streams.specs.Streams.{used};
+ghost use Rattle.streams.specs.Streams.{traffic};
 ghost use Rattle.jdf_commands.specs.EditCommand.Document.{IsRefusalOf};
 ghost use Rattle.jdf_commands.specs.EditCommand.Run.{IsOutput};
 
@@ -37,8 +37,9 @@ pub fn run_edit<R: Read, W: Write, F: Write>(
     faults: &mut Counted<F>,
 ) -> u8
     // Proved: `edit` writes each edit's line and the ticket that they leave, or tells why not.
-    ensures { Ends IsOutput IsRefusalOf (used R.remaining reader.old reader.new)
-        (used W.contents writer.old writer.new) (used F.contents faults.old faults.new) result }
+    ensures { Ends IsOutput IsRefusalOf (traffic R.remaining reader.old reader.new)
+        (traffic W.contents writer.old writer.new)
+        (traffic F.contents faults.old faults.new) result }
 {
     run_command::<Edit, R, W, F>(alloc, reader, writer, faults)
 }

@@ -1,7 +1,7 @@
 //! From the bytes of the input to the bytes of the output.
 
 ghost use Rattle.std.specs.Prelude.{◌≡◌, ◌++◌, IfErr, IfOk, OnOk, Ok};
-ghost use Rattle.jdf_commands.specs.CheckCommand.Readers.{IsAnswer, bare};
+ghost use Rattle.jdf_commands.specs.CheckCommand.Readers.{IsAnswer, bare_answer};
 ghost use Rattle.jdf_commands.specs.EditCommand.Document.{IsReadAs, IsReadRaw, IsRefusalOf};
 ghost use Rattle.jdf_commands.specs.EditCommand.Document.{document_read};
 ghost use Rattle.jdf_commands.specs.declared.edit_command.document.Document.{Document};
@@ -80,7 +80,7 @@ fn read_document(alloc: Global, input: Vec<u8>) -> Result<Document, Refusal>
 /// refusal of it.
 #[tactic(auto, using(crate::proofs::Readers::bared))]
 pub(crate) fn check_document(alloc: Global, input: &[u8]) -> Result<(), Refusal>
-    ensures { IsAnswer (λ d. bare (document_read d)) input.now result }
+    ensures { IsAnswer (λ d. bare_answer (document_read d)) input.now result }
 {
     read_document(alloc, Vec::from_slice(alloc, input)?)?;
     Ok(())

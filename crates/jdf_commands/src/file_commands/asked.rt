@@ -1,6 +1,6 @@
 /// What is asked for by `list`.
 #[derive(Clone, Copy)]
-pub struct Asked {
+pub struct ListRequest {
     /// Whether only what is open is wanted.
     pub is_open: bool,
     /// Whether it is wanted as JSON.

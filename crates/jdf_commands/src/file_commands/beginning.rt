@@ -3,25 +3,29 @@
 ghost use Rattle.std.specs.Prelude.{◌≡◌, [], IfOk, IfErr};
 ghost use Rattle.serde_json.specs.Written.{compact_text};
 ghost use Rattle.stored_state.specs.AnyStep.{text_of};
-ghost use Rattle.stored_state.specs.Held.{Held};
-ghost use Rattle.stored_state.specs.Opened.{held_in};
+ghost use Rattle.stored_state.specs.Held.{KeptState};
+ghost use Rattle.stored_state.specs.Opened.{kept_of};
 ghost use Rattle.stored_state.specs.declared.any_controller.AnyController.{AnyController as AnyControllerSeen};
 ghost use Rattle.jdf_commands.specs.FileCommands.Beginning as begins;
 ghost use Rattle.jdf_commands.specs.FileCommands.Commands.{Begins, BeginsNone};
-ghost use Rattle.streams.specs.Streams.{used};
+ghost use Rattle.streams.specs.Streams.{traffic};
 
-use crate::file_commands::noted::Noted;
-use crate::file_commands::step::{fault_of, unrefused};
+use crate::file_commands::noted::OutputWithNotes;
+use crate::file_commands::step::{fault_of, output_unrefused};
 use controller_form::{Opening, opening_of};
 use keepers::Keep;
 use std::alloc::Global;
 use std::io::Read;
-use stored_state::{Addressee, AnyController, Kept, Opened, Stored};
+use stored_state::{Addressee, AnyController, AnyKept, Kept, StoredController};
 use streams::{Counted, Fault, Output, Refused, read_input};
 
 /// A controller beside its keeper, which holds its state from then on. Refuses as `Device`
 /// `SaveFailed`, and `Memory`.
-fn kept_of<C: Stored, K: Keep>(alloc: Global, controller: C, keep: K) -> Result<Kept<C, K>, Fault>
+fn kept_of<C: StoredController, K: Keep>(
+    alloc: Global,
+    controller: C,
+    keep: K,
+) -> Result<Kept<C, K>, Fault>
     ensures ok { IfOk result (begins.IsBegun K.is_honest K.held K.place
         (λ c. compact_text (C.state_data c)) keep controller) }
     ensures refused { IfErr result (begins.IsNotKept K.save_fails keep
@@ -58,14 +62,18 @@ fn beginning_of(alloc: Global, input: &[u8], to: Addressee<'_>) -> Result<AnyCon
 }
 
 /// A controller beside its keeper, which holds its state from then on. Refuses as `kept_of`.
-fn opened_of<K: Keep>(alloc: Global, controller: AnyController, keep: K) -> Result<Opened<K>, Fault>
+fn opened_of<K: Keep>(
+    alloc: Global,
+    controller: AnyController,
+    keep: K,
+) -> Result<AnyKept<K>, Fault>
     ensures ok { IfOk result (λ opened. begins.IsBegun K.is_honest K.held K.place text_of keep
-        controller (held_in opened)) }
+        controller (kept_of opened)) }
     ensures refused { IfErr result (begins.IsNotKept K.save_fails keep (text_of controller)) }
 {
     match controller {
-        AnyController::Master(master) => Ok(Opened::Master(kept_of(alloc, master, keep)?)),
-        AnyController::Worker(worker) => Ok(Opened::Worker(kept_of(alloc, worker, keep)?)),
+        AnyController::Master(master) => Ok(AnyKept::Master(kept_of(alloc, master, keep)?)),
+        AnyController::Worker(worker) => Ok(AnyKept::Worker(kept_of(alloc, worker, keep)?)),
     }
 }
 
@@ -77,13 +85,13 @@ pub fn begin<K: Keep>(
     keep: K,
     input: &[u8],
     to: Addressee<'_>,
-) -> Result<Opened<K>, Fault>
+) -> Result<AnyKept<K>, Fault>
     // Proved: What the input of `new` begins stands beside its keeper, which holds it then, if it
     // is honest, in the same place, where it is a controller that is addressed; else it says why
     // not.
     // By `ok`, `refused`.
     ensures ok { IfOk result (λ opened. begins.IsBegunAs K.is_honest K.held K.place keep to.entry
-        input.now (held_in opened)) }
+        input.now (kept_of opened)) }
     ensures refused { IfErr result (begins.IsNotBegun K.save_fails keep to.entry input.now) }
 {
     match beginning_of(alloc, input, to) {
@@ -104,22 +112,22 @@ fn new_output<K: Keep, I: Read>(
     is_there: bool,
     to: Addressee<'_>,
     reader: &mut Counted<I>,
-) -> Result<(Output, Opened<K>), Fault>
+) -> Result<(Output, AnyKept<K>), Fault>
     // Proved: `new` writes nothing; where a controller is there already it reads nothing either,
     // and gives up as 57.
     // By `ok`, `refused`.
     ensures ok { IfOk result (λ begun. Begins K.is_honest K.held K.place is_there keep to.entry
-        (used I.remaining reader.old reader.new) (held_in begun.1)
+        (traffic I.remaining reader.old reader.new) (kept_of begun.1)
         begun.0.text.items begun.0.refused) }
     ensures refused { IfErr result (BeginsNone K.save_fails is_there keep to.entry
-        (used I.remaining reader.old reader.new)) }
+        (traffic I.remaining reader.old reader.new)) }
 {
     if is_there {
         return Err(Fault::Device(Refused::SaveFailed));
     }
     let input = read_input(alloc, reader)?;
     let opened = begin(alloc, keep, input.as_slice(), to)?;
-    Ok((unrefused(Vec::new(alloc)), opened))
+    Ok((output_unrefused(Vec::new(alloc)), opened))
 }
 
 /// The same, where nothing is noted and the keeper is let go.
@@ -129,15 +137,15 @@ pub(crate) fn new_noted<K: Keep, I: Read>(
     is_there: bool,
     to: Addressee<'_>,
     reader: &mut Counted<I>,
-) -> Result<Noted, Fault>
-    ensures ok { IfOk result (λ noted. ((after : Held AnyControllerSeen K)
+) -> Result<OutputWithNotes, Fault>
+    ensures ok { IfOk result (λ noted. ((after : KeptState AnyControllerSeen K)
         × Begins K.is_honest K.held K.place is_there keep to.entry
-        (used I.remaining reader.old reader.new) after
+        (traffic I.remaining reader.old reader.new) after
         noted.output.text.items noted.output.refused) × (noted.notes.items ≡ [])) }
     ensures refused { IfErr result (BeginsNone K.save_fails is_there keep to.entry
-        (used I.remaining reader.old reader.new)) }
+        (traffic I.remaining reader.old reader.new)) }
 {
     let (output, opened) = new_output(alloc, keep, is_there, to, reader)?;
     drop(opened);
-    Ok(Noted::bare(alloc, output))
+    Ok(OutputWithNotes::without_notes(alloc, output))
 }

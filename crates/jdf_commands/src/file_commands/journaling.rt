@@ -12,16 +12,16 @@ use jmf_message::decode;
 use journal::{Journal, message_word, order_word, step_line};
 use keepers::Keep;
 use std::alloc::{AllocError, Global};
-use stored_state::Opened;
+use stored_state::AnyKept;
 use ticket_tree::{Id, Refusal};
 
 /// The name of the controller.
-fn name_in<K: Keep>(opened: &Opened<K>) -> &Id
+fn name_in<K: Keep>(opened: &AnyKept<K>) -> &Id
     ensures { result.now ≡ name_of (controller_in opened.now) }
 {
     match opened {
-        Opened::Master(kept) => kept.controller().name(),
-        Opened::Worker(kept) => kept.controller().name(),
+        AnyKept::Master(kept) => kept.controller().name(),
+        AnyKept::Worker(kept) => kept.controller().name(),
     }
 }
 
@@ -77,7 +77,7 @@ fn append<J: Journal>(journal: &mut J, line: Result<Vec<u8>, Refusal>)
 pub(crate) fn journal_order<K: Keep, J: Journal>(
     alloc: Global,
     journal: &mut J,
-    opened: &Opened<K>,
+    opened: &AnyKept<K>,
     by: Option<&str>,
     input: &[u8],
     reply: &Result<Reply, Refusal>,
@@ -102,7 +102,7 @@ pub(crate) fn journal_order<K: Keep, J: Journal>(
 pub(crate) fn journal_message<K: Keep, J: Journal>(
     alloc: Global,
     journal: &mut J,
-    opened: &Opened<K>,
+    opened: &AnyKept<K>,
     bytes: &[u8],
     reply: &Result<Reply, Refusal>,
     at: u64,

@@ -1,7 +1,7 @@
 ghost use Rattle.std.specs.Prelude.{◌≡◌, ◌++◌, true, IfErr, IfOk, OnOk};
 ghost use Rattle.jdf_commands.specs.FileCommands.Listing as listing;
 
-use crate::file_commands::asked::Asked;
+use crate::file_commands::asked::ListRequest;
 use crate::file_commands::lists::Lists;
 use crate::file_commands::opening::snapshot_of;
 use keepers::Locks;
@@ -13,7 +13,7 @@ use streams::{Fault, Refused};
 /// The lists of files of a folder, what is noted of those that aren't listed, and whether there is
 /// any such.
 #[derive(Drop)]
-pub(crate) struct Listed {
+pub(crate) struct FileLists {
     pub(crate) lists: Lists,
     pub(crate) notes: Vec<u8>,
     pub(crate) refused: bool,
@@ -49,18 +49,18 @@ fn push_note(
     notes.extend_from_slice(fault.line().as_bytes())
 }
 
-impl Listed {
+impl FileLists {
     ghost use Rattle.std.specs.Prelude.{◌≡◌, [], false, OnOk};
     ghost use Rattle.jdf_commands.specs.FileCommands.Listing as listing;
 
     /// That of no file.
-    pub(crate) fn new(alloc: Global) -> Listed
+    pub(crate) fn new(alloc: Global) -> FileLists
         ensures first { result.lists.first.items ≡ [] }
         ensures rest { result.lists.rest.items ≡ [] }
         ensures notes { result.notes.items ≡ [] }
         ensures refused { result.refused ≡ false }
     {
-        Listed {
+        FileLists {
             lists: Lists::new(alloc),
             notes: Vec::new(alloc),
             refused: false,
@@ -73,7 +73,7 @@ impl Listed {
         rt: &R,
         alloc: Global,
         file: &FolderFile,
-        asked: Asked,
+        asked: ListRequest,
     ) -> Result<(), AllocError>
         ensures { OnOk result ((came : listing.Came) × listing.IsOf file.now came
             × listing.Adds asked file.now came self.old self.new) }

@@ -12,13 +12,13 @@ ghost use Rattle.streams.specs.declared.refused.Refused.TheVariants.{Core};
 ghost use Rattle.streams.specs.declared.fault.Fault.TheVariants.{Input};
 ghost use Rattle.ticket_items.specs.declared.refusal.Refusal.TheVariants.{Memory};
 
-use crate::file_commands::asked::Asked;
-use crate::file_commands::listed::Listed;
+use crate::file_commands::asked::ListRequest;
+use crate::file_commands::listed::FileLists;
 use crate::file_commands::lists::Lists;
 use crate::file_commands::moment::moment_of;
-use crate::file_commands::noted::Noted;
-use crate::file_commands::opening::{locked, snapshot_in};
-use crate::file_commands::step::unrefused;
+use crate::file_commands::noted::OutputWithNotes;
+use crate::file_commands::opening::{locked_keep, snapshot_in};
+use crate::file_commands::step::output_unrefused;
 use keepers::{Keep, Locks};
 use shop_folder::{FolderFile, Place, files_in};
 use std::alloc::{Alloc, Global};
@@ -26,7 +26,7 @@ use std::time::Clock;
 use streams::{Fault, Output, Refused};
 
 /// What `list` writes of the controller that a keeper holds.
-fn kept_list<K: Keep>(alloc: Global, keep: K, asked: Asked) -> Result<Noted, Fault>
+fn kept_list<K: Keep>(alloc: Global, keep: K, asked: ListRequest) -> Result<OutputWithNotes, Fault>
     ensures ok { IfOk result (λ noted. listing.ListsOne asked K.is_honest K.held keep
         noted.output.text.items noted.output.refused noted.notes.items) }
     ensures refused { IfErr result (λ fault. IsNotLoaded K.is_honest K.held K.load_fails keep fault
@@ -35,18 +35,23 @@ fn kept_list<K: Keep>(alloc: Global, keep: K, asked: Asked) -> Result<Noted, Fau
     let snapshot = snapshot_in(alloc, keep)?;
     let mut lists = Lists::new(alloc);
     lists.push(alloc, snapshot.controller(), asked)?;
-    let output = unrefused(lists.text(alloc, asked.is_json)?);
-    Ok(Noted::bare(alloc, output))
+    let output = output_unrefused(lists.text(alloc, asked.is_json)?);
+    Ok(OutputWithNotes::without_notes(alloc, output))
 }
 
 /// The same of the controller in a file.
-fn file_list<R: Locks>(rt: &R, alloc: Global, file: &str, asked: Asked) -> Result<Noted, Fault>
-    ensures ok { IfOk result (λ noted. listing.ListsOne asked calls.is_honest calls.held
-        (calls.kept_in file.now) noted.output.text.items noted.output.refused
+fn file_list<R: Locks>(
+    rt: &R,
+    alloc: Global,
+    file: &str,
+    asked: ListRequest,
+) -> Result<OutputWithNotes, Fault>
+    ensures ok { IfOk result (λ noted. listing.ListsOne asked calls.is_honest calls.file_bytes
+        (calls.keep_in_file file.now) noted.output.text.items noted.output.refused
         noted.notes.items) }
     ensures refused { IfErr result (IsNotListed file.now) }
 {
-    match locked(rt, alloc, file) {
+    match locked_keep(rt, alloc, file) {
         Ok(keep) => kept_list(alloc, keep, asked),
         Err(fault) => Err(fault),
     }
@@ -57,13 +62,13 @@ fn files_list<R: Locks>(
     rt: &R,
     alloc: Global,
     files: &[FolderFile],
-    asked: Asked,
-) -> Result<Noted, Fault>
+    asked: ListRequest,
+) -> Result<OutputWithNotes, Fault>
     ensures ok { IfOk result (λ noted. listing.ListsFiles asked files.now
         noted.output.text.items noted.output.refused noted.notes.items) }
     ensures refused { IfErr result (λ fault. fault ≡ Input (Core Memory)) }
 {
-    let mut listed = Listed::new(alloc);
+    let mut listed = FileLists::new(alloc);
     for file in files {
         listed.push(rt, alloc, file, asked)?;
     }
@@ -71,7 +76,7 @@ fn files_list<R: Locks>(
         text: listed.lists.text(alloc, asked.is_json)?,
         refused: listed.refused,
     };
-    Ok(Noted {
+    Ok(OutputWithNotes {
         output,
         notes: listed.notes,
     })
@@ -82,8 +87,8 @@ fn folder_list<R: Locks + Alloc + Clone + Drop>(
     rt: &R,
     alloc: Global,
     folder: &str,
-    asked: Asked,
-) -> Result<Noted, Fault>
+    asked: ListRequest,
+) -> Result<OutputWithNotes, Fault>
     ensures ok { IfOk result (λ noted. (files : List FolderFileSeen) × All (LiesIn folder.now) files
         × listing.ListsFiles asked files noted.output.text.items noted.output.refused
         noted.notes.items) }
@@ -100,8 +105,8 @@ fn list_at<R: Locks + Alloc + Clone + Drop>(
     rt: &R,
     alloc: Global,
     path: &str,
-    asked: Asked,
-) -> Result<Noted, Fault>
+    asked: ListRequest,
+) -> Result<OutputWithNotes, Fault>
     ensures ok { IfOk result (λ noted. listing.ListsAt asked path.now noted.output.text.items
         noted.output.refused noted.notes.items) }
     ensures refused { IfErr result (IsNotListed path.now) }
@@ -120,7 +125,7 @@ pub(crate) fn list_output<R: Locks + Clock + Alloc + Clone + Drop>(
     is_open: bool,
     is_json: bool,
     at: Option<u64>,
-) -> Result<Noted, Fault>
+) -> Result<OutputWithNotes, Fault>
     ensures ok { IfOk result (λ noted. (now : ℕ) × IsMoment at now
         × listing.ListsAt (record { is_open = is_open; is_json = is_json; now = now }) path.now
         noted.output.text.items noted.output.refused noted.notes.items) }
@@ -131,7 +136,7 @@ pub(crate) fn list_output<R: Locks + Clock + Alloc + Clone + Drop>(
         rt,
         alloc,
         path,
-        Asked {
+        ListRequest {
             is_open,
             is_json,
             now,

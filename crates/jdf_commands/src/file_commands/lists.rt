@@ -1,7 +1,7 @@
 ghost use Rattle.std.specs.Prelude.{◌≡◌, ◌++◌, false, true, IfOk, OnOk};
 ghost use Rattle.jdf_commands.specs.FileCommands.Listing as listing;
 
-use crate::file_commands::asked::Asked;
+use crate::file_commands::asked::ListRequest;
 use list_text::{HEAD_LINE, push_master_list, push_worker_list};
 use std::alloc::{AllocError, Global};
 use stored_state::AnyController;
@@ -19,12 +19,12 @@ fn push_lines(
     text: &mut Vec<u8>,
     controller: &AnyController,
     are_open: bool,
-    asked: Asked,
+    asked: ListRequest,
 ) -> Result<(), AllocError>
     ensures { OnOk result (text.new.items
         ≡ text.old.items ++ listing.lines_of are_open asked controller.now) }
 {
-    let Asked { is_json, now, .. } = asked;
+    let ListRequest { is_json, now, .. } = asked;
     match controller {
         AnyController::Master(master) => {
             push_master_list(alloc, text, master, are_open, is_json, now)
@@ -40,7 +40,7 @@ fn push_other(
     alloc: Global,
     text: &mut Vec<u8>,
     controller: &AnyController,
-    asked: Asked,
+    asked: ListRequest,
 ) -> Result<(), AllocError>
     ensures { OnOk result (text.new.items
         ≡ text.old.items ++ listing.other_lines asked controller.now) }
@@ -78,7 +78,7 @@ impl Lists {
         &mut self,
         alloc: Global,
         controller: &AnyController,
-        asked: Asked,
+        asked: ListRequest,
     ) -> Result<(), AllocError>
         ensures first { OnOk result (self.new.first.items
             ≡ self.old.first.items ++ listing.lines_of true asked controller.now) }

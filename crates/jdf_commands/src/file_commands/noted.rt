@@ -1,7 +1,7 @@
 ghost use Rattle.std.specs.Prelude.{◌≡◌, [], IfOk, IfErr};
 ghost use Rattle.jdf_commands.specs.FileCommands.Notes.{GivesOutNoting};
 ghost use Rattle.streams.specs.Ends.{GivesUp};
-ghost use Rattle.streams.specs.Streams.{used};
+ghost use Rattle.streams.specs.Streams.{traffic};
 
 use std::alloc::Global;
 use std::io::Write;
@@ -9,19 +9,19 @@ use streams::{Counted, Fault, Output, finish, write_bytes};
 
 /// What a call writes, and what it notes on standard error.
 #[derive(Drop)]
-pub struct Noted {
+pub struct OutputWithNotes {
     pub output: Output,
     /// Lines.
     pub notes: Vec<u8>,
 }
 
-impl Noted {
+impl OutputWithNotes {
     /// An output with no notes.
-    pub(crate) fn bare(alloc: Global, output: Output) -> Noted
+    pub(crate) fn without_notes(alloc: Global, output: Output) -> OutputWithNotes
         ensures output { result.output ≡ output }
         ensures notes { result.notes.items ≡ [] }
     {
-        Noted {
+        OutputWithNotes {
             output,
             notes: Vec::new(alloc),
         }
@@ -31,7 +31,7 @@ impl Noted {
 /// Writes an output that was made, and then its notes in `faults`, as far as that takes them; or
 /// tells why there is none. Answers the exit status, to which the notes do nothing.
 pub fn finish_noting<W: Write, F: Write>(
-    made: Result<Noted, Fault>,
+    made: Result<OutputWithNotes, Fault>,
     writer: &mut Counted<W>,
     faults: &mut Counted<F>,
 ) -> u8
@@ -39,13 +39,14 @@ pub fn finish_noting<W: Write, F: Write>(
     // nothing to the status.
     // By `done`, `gives_up`.
     ensures done { IfOk made (λ noted. GivesOutNoting noted.output.text.items
-        noted.output.refused noted.notes.items (used W.contents writer.old writer.new)
-        (used F.contents faults.old faults.new) result) }
+        noted.output.refused noted.notes.items (traffic W.contents writer.old writer.new)
+        (traffic F.contents faults.old faults.new) result) }
     ensures gives_up { IfErr made (λ fault. GivesUp fault
-        (used W.contents writer.old writer.new) (used F.contents faults.old faults.new) result) }
+        (traffic W.contents writer.old writer.new)
+        (traffic F.contents faults.old faults.new) result) }
 {
     match made {
-        Ok(Noted { output, notes }) => {
+        Ok(OutputWithNotes { output, notes }) => {
             let status = finish(Ok(output), writer, faults);
             let _ = write_bytes(faults, notes.as_slice());
             status

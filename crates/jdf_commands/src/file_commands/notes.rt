@@ -8,7 +8,7 @@ use controller::Reply;
 use json_profile::push_part_text;
 use keepers::Keep;
 use std::alloc::{AllocError, Global};
-use stored_state::Opened;
+use stored_state::AnyKept;
 use ticket_tree::{Part, Refusal};
 use worker_core::Entry;
 
@@ -63,12 +63,12 @@ fn notes_on(alloc: Global, entries: &[Entry]) -> Result<Vec<u8>, AllocError>
 }
 
 /// The notes on what a controller keeps. Refuses `Memory` alone.
-pub(crate) fn notes_of<K: Keep>(alloc: Global, opened: &Opened<K>) -> Result<Vec<u8>, AllocError>
+pub(crate) fn notes_of<K: Keep>(alloc: Global, opened: &AnyKept<K>) -> Result<Vec<u8>, AllocError>
     ensures { IfOk result (λ notes. notes.items ≡ noted.notes_of (controller_in opened.now)) }
 {
     match opened {
-        Opened::Master(_) => Ok(Vec::new(alloc)),
-        Opened::Worker(kept) => notes_on(alloc, kept.controller().entries()),
+        AnyKept::Master(_) => Ok(Vec::new(alloc)),
+        AnyKept::Worker(kept) => notes_on(alloc, kept.controller().entries()),
     }
 }
 
@@ -76,7 +76,7 @@ pub(crate) fn notes_of<K: Keep>(alloc: Global, opened: &Opened<K>) -> Result<Vec
 pub(crate) fn notes_of_order<K: Keep>(
     alloc: Global,
     reply: &Result<Reply, Refusal>,
-    opened: &Opened<K>,
+    opened: &AnyKept<K>,
 ) -> Result<Vec<u8>, AllocError>
     ensures { IfOk result (λ notes. notes.items
         ≡ noted.notes_of_order reply.now (controller_in opened.now)) }

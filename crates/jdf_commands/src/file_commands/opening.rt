@@ -1,7 +1,7 @@
 //! The controller that a keeper holds, and what the file of a path holds.
 
 ghost use Rattle.std.specs.Prelude.{◌≡◌, true, IfOk, IfErr};
-ghost use Rattle.stored_state.specs.Opened.{held_in};
+ghost use Rattle.stored_state.specs.Opened.{kept_of};
 ghost use Rattle.jdf_commands.specs.Calls as calls;
 ghost use Rattle.jdf_commands.specs.Calls.{IsNotOpened};
 ghost use Rattle.jdf_commands.specs.FileCommands.Opening.{IsHeldBy, IsLoaded, IsNotLoaded};
@@ -10,13 +10,13 @@ ghost use Rattle.streams.specs.declared.fault.Fault.TheVariants.{Device};
 
 use keepers::{FileKeep, Keep, Locks, SystemDisk};
 use std::alloc::Global;
-use stored_state::{Opened, Refused, Snapshot, open_any};
+use stored_state::{AnyKept, Refused, Snapshot, open_any};
 use streams::Fault;
 
 /// The controller whose state a keeper holds, beside the keeper. What is refused is a fault of the
 /// device.
-pub(crate) fn opened<K: Keep>(alloc: Global, keep: K) -> Result<Opened<K>, Fault>
-    ensures ok { IfOk result (λ opened. IsLoaded K.is_honest K.held K.place keep (held_in opened)) }
+pub(crate) fn open_keep<K: Keep>(alloc: Global, keep: K) -> Result<AnyKept<K>, Fault>
+    ensures ok { IfOk result (λ opened. IsLoaded K.is_honest K.held K.place keep (kept_of opened)) }
     ensures refused { IfErr result (IsNotLoaded K.is_honest K.held K.load_fails keep) }
 {
     match open_any(alloc, keep) {
@@ -26,8 +26,8 @@ pub(crate) fn opened<K: Keep>(alloc: Global, keep: K) -> Result<Opened<K>, Fault
 }
 
 /// The same, where the text of a snapshot isn't read once more.
-fn opened_as_seen<K: Keep>(alloc: Global, keep: K, snapshot: Snapshot) -> Result<Opened<K>, Fault>
-    ensures ok { IfOk result (λ opened. IsLoaded K.is_honest K.held K.place keep (held_in opened)) }
+fn opened_as_seen<K: Keep>(alloc: Global, keep: K, snapshot: Snapshot) -> Result<AnyKept<K>, Fault>
+    ensures ok { IfOk result (λ opened. IsLoaded K.is_honest K.held K.place keep (kept_of opened)) }
     ensures refused { IfErr result (IsNotLoaded K.is_honest K.held K.load_fails keep) }
 {
     match snapshot.open(alloc, keep) {
@@ -41,23 +41,23 @@ pub(crate) fn opened_again<K: Keep>(
     alloc: Global,
     keep: K,
     seen: Option<Snapshot>,
-) -> Result<Opened<K>, Fault>
-    ensures ok { IfOk result (λ opened. IsLoaded K.is_honest K.held K.place keep (held_in opened)) }
+) -> Result<AnyKept<K>, Fault>
+    ensures ok { IfOk result (λ opened. IsLoaded K.is_honest K.held K.place keep (kept_of opened)) }
     ensures refused { IfErr result (IsNotLoaded K.is_honest K.held K.load_fails keep) }
 {
     match seen {
         Some(snapshot) => opened_as_seen(alloc, keep, snapshot),
-        None => opened(alloc, keep),
+        None => open_keep(alloc, keep),
     }
 }
 
 /// The keeper in the file of this path, which has its lock: it waits for that.
-pub(crate) fn locked<'a, R: Locks>(
+pub(crate) fn locked_keep<'a, R: Locks>(
     rt: &'a R,
     alloc: Global,
     file: &'a str,
 ) -> Result<FileKeep<SystemDisk<'a, R>>, Fault>
-    ensures ok { IfOk result (λ keep. keep ≡ calls.kept_in file.now) }
+    ensures ok { IfOk result (λ keep. keep ≡ calls.keep_in_file file.now) }
     ensures refused { IfErr result (λ fault. fault ≡ Device LoadFailed) }
 {
     match FileKeep::lock(rt, alloc, file) {
@@ -82,11 +82,11 @@ pub(crate) fn snapshot_in<K: Keep>(alloc: Global, mut keep: K) -> Result<Snapsho
 
 /// What the file of this path holds. The file is locked while it is read, and no longer.
 pub(crate) fn snapshot_of<R: Locks>(rt: &R, alloc: Global, file: &str) -> Result<Snapshot, Fault>
-    ensures controller { IfOk result (λ snapshot. IsHeldBy calls.is_honest calls.held
-        (calls.kept_in file.now) snapshot.controller) }
+    ensures controller { IfOk result (λ snapshot. IsHeldBy calls.is_honest calls.file_bytes
+        (calls.keep_in_file file.now) snapshot.controller) }
     ensures refused { IfErr result (IsNotOpened file.now) }
 {
-    match locked(rt, alloc, file) {
+    match locked_keep(rt, alloc, file) {
         Ok(keep) => snapshot_in(alloc, keep),
         Err(fault) => Err(fault),
     }

@@ -15,31 +15,31 @@ ghost use Rattle.jdf_commands.specs.FileCommands.Notes.{notes_of_order};
 ghost use Rattle.jdf_commands.specs.FileCommands.Step.{is_refused, step_lines};
 ghost use Rattle.stored_state.specs.Addressee.{name_of};
 ghost use Rattle.stored_state.specs.AnyStep.{IsNoOrder, IsOrdered};
-ghost use Rattle.stored_state.specs.Held.{Held};
-ghost use Rattle.stored_state.specs.Opened.{controller_in, held_in};
+ghost use Rattle.stored_state.specs.Held.{KeptState};
+ghost use Rattle.stored_state.specs.Opened.{controller_in, kept_of};
 ghost use Rattle.stored_state.specs.declared.any_controller.AnyController.{AnyController};
-ghost use Rattle.streams.specs.Streams.{used};
+ghost use Rattle.streams.specs.Streams.{traffic};
 ghost use Rattle.streams.specs.declared.refused.Refused.TheVariants.{Core};
 ghost use Rattle.streams.specs.declared.fault.Fault.TheVariants.{Input};
 ghost use Rattle.ticket_items.specs.declared.refusal.Refusal.TheVariants.{Memory};
 
 use crate::file_commands::journaling::journal_order;
-use crate::file_commands::noted::Noted;
+use crate::file_commands::noted::OutputWithNotes;
 use crate::file_commands::notes::notes_of_order;
-use crate::file_commands::opening::{locked, opened_again, snapshot_of};
+use crate::file_commands::opening::{locked_keep, opened_again, snapshot_of};
 use crate::file_commands::step::{fault_of, step_output};
 use controller::Reply;
 use journal::{Journal, user_text};
 use keepers::{Keep, Locks};
 use std::alloc::Global;
 use std::io::Read;
-use stored_state::{Opened, OrderBytes, Snapshot};
+use stored_state::{AnyKept, OrderBytes, Snapshot};
 use streams::{Counted, Fault, read_input};
 use ticket_tree::Refusal;
 
 /// What an order to the controller in a file gives out once its step is saved.
 #[derive(Drop)]
-pub struct Ordered {
+pub struct OrderOutput {
     /// What the controller replies, or why it refused the order.
     pub reply: Result<Reply, Refusal>,
     /// The text of the message that goes out, if one does.
@@ -60,14 +60,14 @@ fn order_held<K: Keep, J: Journal>(
     at: u64,
     by: Option<&str>,
     journal: &mut J,
-) -> Result<(OrderBytes, Opened<K>), Fault>
+) -> Result<(OrderBytes, AnyKept<K>), Fault>
     // Proved: What an order or a message to the controller that a keeper holds gives out is the
     // reply and the text of one step of it, and the controller beside its keeper as it is then: an
     // honest one holds the state that the step leaves, in the same place. Else it says why not,
     // and what that leaves.
     // By `ok`, `refused`; `take_held`: `ok`, `refused`.
     ensures ok { IfOk result (λ given. GivesHeld K.is_honest K.held K.place (IsOrdered at)
-        input.now keep (held_in given.1)
+        input.now keep (kept_of given.1)
         given.0.reply (option_map (λ b. b.items) given.0.message)) }
     ensures refused { IfErr result (DoesNoStep K.is_honest K.held K.place K.count K.load_fails
         K.save_fails IsNoOrder (IsOrdered at) input.now keep) }
@@ -97,7 +97,7 @@ fn order_given<K: Keep, J: Journal>(
     at: u64,
     by: Option<&str>,
     journal: &mut J,
-) -> Result<Ordered, Fault>
+) -> Result<OrderOutput, Fault>
     ensures ok { IfOk result (λ given. GivesNoting
         (λ after. GivesHeld K.is_honest K.held K.place (IsOrdered at) input.now keep after
         given.reply (option_map (λ b. b.items) given.message))
@@ -105,7 +105,7 @@ fn order_given<K: Keep, J: Journal>(
     ensures refused { IfErr result (DoesNoStep K.is_honest K.held K.place K.count K.load_fails
         K.save_fails IsNoOrder (IsOrdered at) input.now keep) }
     ensures journal { IfOk result (λ given. J.is_honest journal.old ≡ true →
-        (after : Held AnyController K)
+        (after : KeptState AnyController K)
         × GivesHeld K.is_honest K.held K.place (IsOrdered at) input.now keep after
         given.reply (option_map (λ b. b.items) given.message)
         × IsJournaled J.held J.is_missed
@@ -117,7 +117,7 @@ fn order_given<K: Keep, J: Journal>(
     let (given, opened) = order_held(alloc, keep, seen, input, at, by, journal)?;
     let notes = notes_of_order(alloc, &given.reply, &opened)?;
     let OrderBytes { reply, message } = given;
-    Ok(Ordered {
+    Ok(OrderOutput {
         reply,
         message,
         notes,
@@ -135,31 +135,31 @@ fn order_locked<R: Locks, J: Journal>(
     at: u64,
     by: Option<&str>,
     journal: &mut J,
-) -> Result<Ordered, Fault>
+) -> Result<OrderOutput, Fault>
     ensures ok { IfOk result (λ given. GivesNoting
-        (λ after. GivesHeld calls.is_honest calls.held calls.place (IsOrdered at)
-        input.now (calls.kept_in file.now) after
+        (λ after. GivesHeld calls.is_honest calls.file_bytes calls.place (IsOrdered at)
+        input.now (calls.keep_in_file file.now) after
         given.reply (option_map (λ b. b.items) given.message))
         (notes_of_order given.reply) given.notes.items) }
     ensures refused { IfErr result (DoesNoneOf IsNoOrder (IsOrdered at) file.now input.now) }
     ensures journal { IfOk result (λ given. J.is_honest journal.old ≡ true →
-        (after : Held AnyController (InFile OnDisk))
-        × GivesHeld calls.is_honest calls.held calls.place (IsOrdered at) input.now
-        (calls.kept_in file.now) after given.reply (option_map (λ b. b.items) given.message)
+        (after : KeptState AnyController (InFile OnDisk))
+        × GivesHeld calls.is_honest calls.file_bytes calls.place (IsOrdered at) input.now
+        (calls.keep_in_file file.now) after given.reply (option_map (λ b. b.items) given.message)
         × IsJournaled J.held J.is_missed
         (IsOrderLine (who by.entry) (name_of after.controller) at input.now)
         given.reply journal.old journal.new) }
     ensures unsaved { IfErr result (λ fault. J.is_honest journal.old ≡ true →
         IsLeft J.held J.is_missed journal.old journal.new ⊎ (fault ≡ Input (Core Memory))) }
 {
-    match locked(rt, alloc, file) {
+    match locked_keep(rt, alloc, file) {
         Ok(keep) => order_given(alloc, keep, Some(seen), input, at, by, journal),
         Err(fault) => Err(fault),
     }
 }
 
 /// Who types, as a line of a journal tells it, where one is wanted and the system tells it.
-fn typed_by<R: Locks, J: Journal>(rt: &R, alloc: Global, journal: &J) -> Option<String> {
+fn typist<R: Locks, J: Journal>(rt: &R, alloc: Global, journal: &J) -> Option<String> {
     if journal.is_wanted() {
         user_text(rt, alloc)
     } else {
@@ -188,31 +188,31 @@ pub fn order_in_file<R: Locks, I: Read, J: Journal>(
     at: u64,
     reader: &mut Counted<I>,
     journal: &mut J,
-) -> Result<Ordered, Fault>
+) -> Result<OrderOutput, Fault>
     // Proved: What an order or a message to the controller in a file gives out is the reply and
     // the text of a step of a controller that was kept in the file's place, before it and then. Of
     // an order it gives out too what the reply and the controller as it is then have noted.
     // By `ok`, `refused`; `take_in_file`: `ok`, `refused`.
     ensures ok { IfOk result (λ given. GivesNoting
-        (λ after. GivesStepOf calls.is_honest calls.held calls.place (IsOrdered at)
-        (calls.kept_in file.now) (used I.remaining reader.old reader.new) after
+        (λ after. GivesStepOf calls.is_honest calls.file_bytes calls.place (IsOrdered at)
+        (calls.keep_in_file file.now) (traffic I.remaining reader.old reader.new) after
         given.reply (option_map (λ b. b.items) given.message))
         (notes_of_order given.reply) given.notes.items) }
     ensures refused { IfErr result (DoesNone IsNoOrder (IsOrdered at)
-        file.now (used I.remaining reader.old reader.new)) }
+        file.now (traffic I.remaining reader.old reader.new)) }
     // Proved: An honest journal gets the line of the step of an order or a message in a file, or
     // misses it, which is told; where nothing was saved it is left as it was.
     // By `journal`, `unsaved`; `take_in_file`: `journal`, `unsaved`.
     ensures journal { IfOk result (λ given. J.is_honest journal.old ≡ true →
-        OrdersJournaled J.held J.is_missed at (calls.kept_in file.now)
-        (used I.remaining reader.old reader.new) given.reply
+        OrdersJournaled J.held J.is_missed at (calls.keep_in_file file.now)
+        (traffic I.remaining reader.old reader.new) given.reply
         (option_map (λ b. b.items) given.message) journal.old journal.new) }
     ensures unsaved { IfErr result (λ fault. J.is_honest journal.old ≡ true →
         IsLeft J.held J.is_missed journal.old journal.new ⊎ (fault ≡ Input (Core Memory))) }
 {
     let snapshot = snapshot_of(rt, alloc, file)?;
     let input = read_input(alloc, reader)?;
-    let by = typed_by(rt, alloc, journal);
+    let by = typist(rt, alloc, journal);
     order_locked(
         rt,
         alloc,
@@ -232,7 +232,7 @@ pub fn order_noted(
     reply: Result<Reply, Refusal>,
     message: &Option<Vec<u8>>,
     notes: Vec<u8>,
-) -> Result<Noted, Fault>
+) -> Result<OutputWithNotes, Fault>
     ensures lines { IfOk result (λ noted. noted.output.text.items
         ≡ step_lines reply (option_map (λ b. b.items) message.now)) }
     ensures status { IfOk result (λ noted. noted.output.refused ≡ is_refused reply) }
@@ -240,7 +240,7 @@ pub fn order_noted(
     ensures memory { IfErr result (λ f. f ≡ Input (Core Memory)) }
 {
     match step_output(alloc, reply, message) {
-        Ok(output) => Ok(Noted { output, notes }),
+        Ok(output) => Ok(OutputWithNotes { output, notes }),
         Err(fault) => Err(fault),
     }
 }
@@ -253,14 +253,15 @@ pub(crate) fn order_output<R: Locks, I: Read, J: Journal>(
     at: u64,
     reader: &mut Counted<I>,
     journal: &mut J,
-) -> Result<Noted, Fault>
-    ensures ok { IfOk result (λ noted. DoesStep calls.is_honest calls.held calls.place (IsOrdered at)
-        notes_of_order (calls.kept_in file.now) (used I.remaining reader.old reader.new)
+) -> Result<OutputWithNotes, Fault>
+    ensures ok { IfOk result (λ noted. DoesStep calls.is_honest calls.file_bytes calls.place
+        (IsOrdered at)
+        notes_of_order (calls.keep_in_file file.now) (traffic I.remaining reader.old reader.new)
         noted.output.text.items noted.output.refused noted.notes.items) }
     ensures refused { IfErr result (DoesNone IsNoOrder (IsOrdered at)
-        file.now (used I.remaining reader.old reader.new)) }
+        file.now (traffic I.remaining reader.old reader.new)) }
 {
-    let Ordered {
+    let OrderOutput {
         reply,
         message,
         notes,

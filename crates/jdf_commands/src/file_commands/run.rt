@@ -3,22 +3,22 @@
 ghost use Rattle.std.specs.Prelude.{◌≡◌, Bool, [], false, IfErr, IfOk};
 ghost use Rattle.keepers.specs.InFile.{InFile};
 ghost use Rattle.keepers.specs.OnDisk.{OnDisk};
-ghost use Rattle.stored_state.specs.Held.{Held};
+ghost use Rattle.stored_state.specs.Held.{KeptState};
 ghost use Rattle.stored_state.specs.declared.addressee.Addressee.{Addressee};
 ghost use Rattle.stored_state.specs.declared.any_controller.AnyController.{AnyController};
 ghost use Rattle.jdf_commands.specs.Calls as calls;
 ghost use Rattle.jdf_commands.specs.Calls.{EndsCall, EndsListing, EndsNoted, IsFaultOfCall};
 ghost use Rattle.jdf_commands.specs.Calls.{IsOutputOfCall};
 ghost use Rattle.jdf_commands.specs.FileCommands.Commands.{Begins, BeginsNone};
-ghost use Rattle.streams.specs.Streams.{used};
+ghost use Rattle.streams.specs.Streams.{traffic};
 
-use crate::caused::{Caused, give_up_caused};
+use crate::caused::{CausedFault, give_up_caused};
 use crate::check_command::run_check;
 use crate::edit_command::Edit;
 use crate::explain_command::run_explain;
 use crate::file_commands::beginning::new_noted;
 use crate::file_commands::listing::list_output;
-use crate::file_commands::noted::{Noted, finish_noting};
+use crate::file_commands::noted::{OutputWithNotes, finish_noting};
 use crate::file_commands::ordering::order_output;
 use crate::file_commands::shown::show_output;
 use crate::file_commands::taking::take_output;
@@ -38,14 +38,16 @@ fn new_in_file<R: Locks, I: Read>(
     alloc: Global,
     file: &str,
     reader: &mut Counted<I>,
-) -> Result<Noted, Fault>
-    ensures ok { IfOk result (λ noted. ((to : Addressee) × (after : Held AnyController (InFile OnDisk))
-        × Begins calls.is_honest calls.held calls.place false (calls.made_in file.now) to
-        (used I.remaining reader.old reader.new) after
+) -> Result<OutputWithNotes, Fault>
+    ensures ok { IfOk result (λ noted. ((to : Addressee)
+        × (after : KeptState AnyController (InFile OnDisk))
+        × Begins calls.is_honest calls.file_bytes calls.place false
+        (calls.keep_in_new_file file.now) to
+        (traffic I.remaining reader.old reader.new) after
         noted.output.text.items noted.output.refused) × (noted.notes.items ≡ [])) }
     ensures refused { IfErr result (λ fault. (is_there : Bool) × (to : Addressee)
-        × BeginsNone calls.save_fails is_there (calls.made_in file.now) to
-        (used I.remaining reader.old reader.new) fault) }
+        × BeginsNone calls.save_fails is_there (calls.keep_in_new_file file.now) to
+        (traffic I.remaining reader.old reader.new) fault) }
 {
     let to = owner_of(rt, alloc, file)?;
     let keep = FileKeep::create_new(rt, alloc, file);
@@ -61,16 +63,22 @@ pub fn call_output<R: Locks + Clock + Alloc + Clone + Drop, I: Read, J: Journal>
     call: Call<'_>,
     reader: &mut Counted<I>,
     journal: &mut J,
-) -> Result<Noted, Fault>
+) -> Result<OutputWithNotes, Fault>
     ensures ok { IfOk result (λ noted. IsOutputOfCall call.entry
-        (used I.remaining reader.old reader.new)
+        (traffic I.remaining reader.old reader.new)
         noted.output.text.items noted.output.refused noted.notes.items) }
     ensures refused { IfErr result
-        (IsFaultOfCall call.entry (used I.remaining reader.old reader.new)) }
+        (IsFaultOfCall call.entry (traffic I.remaining reader.old reader.new)) }
 {
     match call {
-        Call::Edit => Ok(Noted::bare(alloc, output_of::<Edit, I>(alloc, reader)?)),
-        Call::World => Ok(Noted::bare(alloc, output_of::<WorldCommand, I>(alloc, reader)?)),
+        Call::Edit => Ok(OutputWithNotes::without_notes(
+            alloc,
+            output_of::<Edit, I>(alloc, reader)?,
+        )),
+        Call::World => Ok(OutputWithNotes::without_notes(
+            alloc,
+            output_of::<WorldCommand, I>(alloc, reader)?,
+        )),
         Call::New { file } => new_in_file(rt, alloc, file, reader),
         Call::Order { file, at } => order_output(rt, alloc, file, at, reader, journal),
         Call::Take { file, at } => take_output(rt, alloc, file, at, reader, journal),
@@ -100,8 +108,9 @@ fn run_noted<R: Locks + Clock + Alloc + Clone + Drop, I: Read, W: Write, F: Writ
     faults: &mut Counted<F>,
     journal: &mut J,
 ) -> u8
-    ensures { EndsNoted call.entry (used I.remaining reader.old reader.new)
-        (used W.contents writer.old writer.new) (used F.contents faults.old faults.new) result }
+    ensures { EndsNoted call.entry (traffic I.remaining reader.old reader.new)
+        (traffic W.contents writer.old writer.new)
+        (traffic F.contents faults.old faults.new) result }
 {
     finish_noting(
         call_output(rt, alloc, call, reader, journal),
@@ -121,13 +130,14 @@ fn run_listing<R: Locks + Clock + Alloc + Clone + Drop, I: Read, W: Write, F: Wr
     faults: &mut Counted<F>,
     journal: &mut J,
 ) -> u8
-    ensures { EndsListing call.entry (used I.remaining reader.old reader.new)
-        (used W.contents writer.old writer.new) (used F.contents faults.old faults.new) result }
+    ensures { EndsListing call.entry (traffic I.remaining reader.old reader.new)
+        (traffic W.contents writer.old writer.new)
+        (traffic F.contents faults.old faults.new) result }
 {
     match call_output(rt, alloc, call, reader, journal) {
         Ok(noted) => finish_noting(Ok(noted), writer, faults),
         Err(fault) => {
-            let caused = Caused::at_path(rt, alloc, fault, path, "");
+            let caused = CausedFault::at_path(rt, alloc, fault, path, "");
             give_up_caused(alloc, caused, faults)
         }
     }
@@ -178,8 +188,9 @@ pub fn run_file<R: Locks + Clock + Alloc + Clone + Drop, I: Read, W: Write, F: W
     // By `call_output`: `ok`, `refused`.
     // Not proved: what stands in a file: the clauses say which place was loaded and saved, and
     // neither what it held nor why it was refused.
-    ensures { EndsCall call.now (used I.remaining reader.old reader.new)
-        (used W.contents writer.old writer.new) (used F.contents faults.old faults.new) result }
+    ensures { EndsCall call.now (traffic I.remaining reader.old reader.new)
+        (traffic W.contents writer.old writer.new)
+        (traffic F.contents faults.old faults.new) result }
 {
     match call {
         Call::Check { kind, all } => run_check(alloc, *kind, *all, reader, writer, faults),

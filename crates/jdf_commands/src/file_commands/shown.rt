@@ -1,10 +1,10 @@
 //! What `show` writes of a controller.
 
 ghost use Rattle.std.specs.Prelude.{◌≡◌, ◌⊎◌, ◌++◌, ℕ, string_bytes, IfOk, IfErr, None, OnOk};
-ghost use Rattle.stored_state.specs.Opened.{held_in};
+ghost use Rattle.stored_state.specs.Opened.{kept_of};
 ghost use Rattle.jdf_commands.specs.Calls as calls;
 ghost use Rattle.jdf_commands.specs.Calls.{IsNotOpened};
-ghost use Rattle.jdf_commands.specs.FileCommands.Commands.{IsMoment, Shows, shown_as};
+ghost use Rattle.jdf_commands.specs.FileCommands.Commands.{IsMoment, Shows, output_text};
 ghost use Rattle.jdf_commands.specs.FileCommands.Opening.{IsNotLoaded};
 ghost use Rattle.jdf_commands.specs.FileCommands.Shown as shown;
 ghost use Rattle.streams.specs.declared.refused.Refused.TheVariants.{Core, ReadFailed};
@@ -12,18 +12,18 @@ ghost use Rattle.streams.specs.declared.fault.Fault.TheVariants.{Device, Input};
 ghost use Rattle.ticket_items.specs.declared.refusal.Refusal.TheVariants.{Memory};
 
 use crate::file_commands::moment::moment_of;
-use crate::file_commands::noted::Noted;
+use crate::file_commands::noted::OutputWithNotes;
 use crate::file_commands::notes::notes_of;
-use crate::file_commands::opening::{locked, opened};
+use crate::file_commands::opening::{locked_keep, open_keep};
 use crate::file_commands::pictured::{master_picture, worker_picture};
-use crate::file_commands::step::unrefused;
+use crate::file_commands::step::output_unrefused;
 use controller_form::push_shown;
 use json_profile::push_part_text;
 use keepers::{Keep, Locks};
 use master_core::Master;
 use std::alloc::{AllocError, Global};
 use std::time::Clock;
-use stored_state::Opened;
+use stored_state::AnyKept;
 use streams::Fault;
 use ticket_tree::{Part, Refusal};
 use worker_core::{End, Entry, Stage, Worker};
@@ -109,34 +109,39 @@ pub fn worker_text(alloc: Global, worker: &Worker) -> Result<Vec<u8>, AllocError
 /// alone.
 fn text_shown<K: Keep>(
     alloc: Global,
-    opened: &Opened<K>,
+    opened: &AnyKept<K>,
     picture: bool,
     now: u64,
 ) -> Result<Vec<u8>, Refusal>
     ensures ok { IfOk result
-        (λ text. text.items ≡ shown_as picture now (held_in opened.now).controller) }
+        (λ text. text.items ≡ output_text picture now (kept_of opened.now).controller) }
     ensures memory { IfErr result (λ e. e ≡ Memory) }
 {
     match opened {
-        Opened::Master(kept) if picture => Ok(master_picture(alloc, kept.controller(), now)?),
-        Opened::Worker(kept) if picture => Ok(worker_picture(alloc, kept.controller(), now)?),
-        Opened::Master(kept) => master_text(alloc, kept.controller()),
-        Opened::Worker(kept) => Ok(worker_text(alloc, kept.controller())?),
+        AnyKept::Master(kept) if picture => Ok(master_picture(alloc, kept.controller(), now)?),
+        AnyKept::Worker(kept) if picture => Ok(worker_picture(alloc, kept.controller(), now)?),
+        AnyKept::Master(kept) => master_text(alloc, kept.controller()),
+        AnyKept::Worker(kept) => Ok(worker_text(alloc, kept.controller())?),
     }
 }
 
 /// What `show` writes of the controller that a keeper holds, which is what that shows or its
 /// picture, and what it notes of it.
-fn kept_shown<K: Keep>(alloc: Global, keep: K, picture: bool, now: u64) -> Result<Noted, Fault>
+fn kept_shown<K: Keep>(
+    alloc: Global,
+    keep: K,
+    picture: bool,
+    now: u64,
+) -> Result<OutputWithNotes, Fault>
     ensures ok { IfOk result (λ noted. Shows picture now K.is_honest K.held K.place keep
         noted.output.text.items noted.output.refused noted.notes.items) }
     ensures refused { IfErr result (λ fault. IsNotLoaded K.is_honest K.held K.load_fails keep fault
         ⊎ (fault ≡ Input (Core Memory))) }
 {
-    let opened = opened(alloc, keep)?;
-    let output = unrefused(text_shown(alloc, &opened, picture, now)?);
+    let opened = open_keep(alloc, keep)?;
+    let output = output_unrefused(text_shown(alloc, &opened, picture, now)?);
     let notes = notes_of(alloc, &opened)?;
-    Ok(Noted { output, notes })
+    Ok(OutputWithNotes { output, notes })
 }
 
 /// The same of the controller in a file.
@@ -146,13 +151,15 @@ fn file_shown<R: Locks>(
     file: &str,
     picture: bool,
     now: u64,
-) -> Result<Noted, Fault>
-    ensures ok { IfOk result (λ noted. Shows picture now calls.is_honest calls.held calls.place
-        (calls.kept_in file.now) noted.output.text.items noted.output.refused noted.notes.items) }
+) -> Result<OutputWithNotes, Fault>
+    ensures ok { IfOk result (λ noted. Shows picture now calls.is_honest calls.file_bytes
+        calls.place
+        (calls.keep_in_file file.now) noted.output.text.items noted.output.refused
+        noted.notes.items) }
     ensures refused { IfErr result (λ fault. IsNotOpened file.now fault
         ⊎ (fault ≡ Input (Core Memory))) }
 {
-    match locked(rt, alloc, file) {
+    match locked_keep(rt, alloc, file) {
         Ok(keep) => kept_shown(alloc, keep, picture, now),
         Err(fault) => Err(fault),
     }
@@ -160,7 +167,7 @@ fn file_shown<R: Locks>(
 
 /// The moment of a picture: the one that is named, or that of the clock. Where none is wanted the
 /// clock isn't looked at.
-fn drawn_at<R: Clock>(clock: &R, picture: bool, at: Option<u64>) -> Result<u64, Fault>
+fn moment_of_picture<R: Clock>(clock: &R, picture: bool, at: Option<u64>) -> Result<u64, Fault>
     ensures ok { IfOk result (IsMoment at) }
     ensures refused { IfErr result (λ fault. (at ≡ None) × (fault ≡ Device ReadFailed)) }
 {
@@ -178,11 +185,18 @@ pub(crate) fn show_output<R: Locks + Clock>(
     file: &str,
     picture: bool,
     at: Option<u64>,
-) -> Result<Noted, Fault>
+) -> Result<OutputWithNotes, Fault>
     ensures ok { IfOk result (λ noted. (now : ℕ) × IsMoment at now
-        × Shows picture now calls.is_honest calls.held calls.place (calls.kept_in file.now)
+        × Shows picture now calls.is_honest calls.file_bytes calls.place
+        (calls.keep_in_file file.now)
         noted.output.text.items noted.output.refused noted.notes.items) }
     ensures refused { IfErr result (calls.IsNotSeen file.now at) }
 {
-    file_shown(rt, alloc, file, picture, drawn_at(rt, picture, at)?)
+    file_shown(
+        rt,
+        alloc,
+        file,
+        picture,
+        moment_of_picture(rt, picture, at)?,
+    )
 }

@@ -72,7 +72,7 @@ pub fn step_output(
 }
 
 /// An output by which nothing was refused.
-pub(crate) fn unrefused(text: Vec<u8>) -> Output
+pub(crate) fn output_unrefused(text: Vec<u8>) -> Output
     ensures text { result.text.items ≡ text.items }
     ensures accepted { result.refused ≡ false }
 {

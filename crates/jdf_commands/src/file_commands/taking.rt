@@ -14,20 +14,20 @@ ghost use Rattle.jdf_commands.specs.FileCommands.Notes.{no_notes};
 ghost use Rattle.jmf_message.specs.Decoded.{IsRefusalOf};
 ghost use Rattle.stored_state.specs.Addressee.{name_of};
 ghost use Rattle.stored_state.specs.AnyStep.{IsHanded};
-ghost use Rattle.stored_state.specs.Held.{Held};
-ghost use Rattle.stored_state.specs.Opened.{controller_in, held_in};
+ghost use Rattle.stored_state.specs.Held.{KeptState};
+ghost use Rattle.stored_state.specs.Opened.{controller_in, kept_of};
 ghost use Rattle.stored_state.specs.declared.any_controller.AnyController.{AnyController};
-ghost use Rattle.streams.specs.Streams.{used};
+ghost use Rattle.streams.specs.Streams.{traffic};
 
 use crate::file_commands::journaling::journal_message;
-use crate::file_commands::noted::Noted;
-use crate::file_commands::opening::{locked, opened_again, snapshot_of};
+use crate::file_commands::noted::OutputWithNotes;
+use crate::file_commands::opening::{locked_keep, opened_again, snapshot_of};
 use crate::file_commands::step::{fault_of, step_output};
 use journal::Journal;
 use keepers::{Keep, Locks};
 use std::alloc::Global;
 use std::io::Read;
-use stored_state::{Opened, Snapshot, TakenBytes};
+use stored_state::{AnyKept, Snapshot, TakenBytes};
 use streams::{Counted, Fault, read_input};
 
 /// What a message to the controller that a keeper holds gives out, once its step is saved, and the
@@ -41,9 +41,9 @@ fn take_held<K: Keep, J: Journal>(
     bytes: &[u8],
     at: u64,
     journal: &mut J,
-) -> Result<(TakenBytes, Opened<K>), Fault>
+) -> Result<(TakenBytes, AnyKept<K>), Fault>
     ensures ok { IfOk result (λ given. GivesHeld K.is_honest K.held K.place (IsHanded at)
-        bytes.now keep (held_in given.1)
+        bytes.now keep (kept_of given.1)
         given.0.reply (option_map (λ b. b.items) given.0.answer)) }
     ensures refused { IfErr result (DoesNoStep K.is_honest K.held K.place K.count K.load_fails
         K.save_fails (λ bytes _. IsRefusalOf bytes) (IsHanded at) bytes.now keep) }
@@ -73,13 +73,13 @@ fn take_given<K: Keep, J: Journal>(
     at: u64,
     journal: &mut J,
 ) -> Result<TakenBytes, Fault>
-    ensures ok { IfOk result (λ given. (after : Held AnyController K)
+    ensures ok { IfOk result (λ given. (after : KeptState AnyController K)
         × GivesHeld K.is_honest K.held K.place (IsHanded at) bytes.now keep after
         given.reply (option_map (λ b. b.items) given.answer)) }
     ensures refused { IfErr result (DoesNoStep K.is_honest K.held K.place K.count K.load_fails
         K.save_fails (λ bytes _. IsRefusalOf bytes) (IsHanded at) bytes.now keep) }
     ensures journal { IfOk result (λ given. J.is_honest journal.old ≡ true →
-        (after : Held AnyController K)
+        (after : KeptState AnyController K)
         × GivesHeld K.is_honest K.held K.place (IsHanded at) bytes.now keep after
         given.reply (option_map (λ b. b.items) given.answer)
         × IsJournaled J.held J.is_missed (IsMessageLine (name_of after.controller) at bytes.now)
@@ -106,22 +106,22 @@ pub fn take_in_file<R: Locks, J: Journal>(
     at: u64,
     journal: &mut J,
 ) -> Result<TakenBytes, Fault>
-    ensures ok { IfOk result (λ given. (after : Held AnyController (InFile OnDisk))
-        × GivesHeld calls.is_honest calls.held calls.place (IsHanded at)
-        bytes.now (calls.kept_in file.now) after
+    ensures ok { IfOk result (λ given. (after : KeptState AnyController (InFile OnDisk))
+        × GivesHeld calls.is_honest calls.file_bytes calls.place (IsHanded at)
+        bytes.now (calls.keep_in_file file.now) after
         given.reply (option_map (λ b. b.items) given.answer)) }
     ensures refused { IfErr result (DoesNoneOf (λ bytes _. IsRefusalOf bytes) (IsHanded at)
         file.now bytes.now) }
     ensures journal { IfOk result (λ given. J.is_honest journal.old ≡ true →
-        (after : Held AnyController (InFile OnDisk))
-        × GivesHeld calls.is_honest calls.held calls.place (IsHanded at) bytes.now
-        (calls.kept_in file.now) after given.reply (option_map (λ b. b.items) given.answer)
+        (after : KeptState AnyController (InFile OnDisk))
+        × GivesHeld calls.is_honest calls.file_bytes calls.place (IsHanded at) bytes.now
+        (calls.keep_in_file file.now) after given.reply (option_map (λ b. b.items) given.answer)
         × IsJournaled J.held J.is_missed (IsMessageLine (name_of after.controller) at bytes.now)
         given.reply journal.old journal.new) }
     ensures unsaved { OnErr result (J.is_honest journal.old ≡ true →
         IsLeft J.held J.is_missed journal.old journal.new) }
 {
-    match locked(rt, alloc, file) {
+    match locked_keep(rt, alloc, file) {
         Ok(keep) => take_given(alloc, keep, seen, bytes, at, journal),
         Err(fault) => Err(fault),
     }
@@ -137,12 +137,12 @@ fn take_input<R: Locks, I: Read, J: Journal>(
     reader: &mut Counted<I>,
     journal: &mut J,
 ) -> Result<TakenBytes, Fault>
-    ensures ok { IfOk result (λ given. (after : Held AnyController (InFile OnDisk))
-        × GivesStepOf calls.is_honest calls.held calls.place (IsHanded at)
-        (calls.kept_in file.now) (used I.remaining reader.old reader.new) after
+    ensures ok { IfOk result (λ given. (after : KeptState AnyController (InFile OnDisk))
+        × GivesStepOf calls.is_honest calls.file_bytes calls.place (IsHanded at)
+        (calls.keep_in_file file.now) (traffic I.remaining reader.old reader.new) after
         given.reply (option_map (λ b. b.items) given.answer)) }
     ensures refused { IfErr result (DoesNone (λ bytes _. IsRefusalOf bytes) (IsHanded at)
-        file.now (used I.remaining reader.old reader.new)) }
+        file.now (traffic I.remaining reader.old reader.new)) }
     ensures unsaved { OnErr result (J.is_honest journal.old ≡ true →
         IsLeft J.held J.is_missed journal.old journal.new) }
 {
@@ -167,16 +167,17 @@ pub(crate) fn take_output<R: Locks, I: Read, J: Journal>(
     at: u64,
     reader: &mut Counted<I>,
     journal: &mut J,
-) -> Result<Noted, Fault>
-    ensures ok { IfOk result (λ noted. DoesStep calls.is_honest calls.held calls.place (IsHanded at)
-        no_notes (calls.kept_in file.now) (used I.remaining reader.old reader.new)
+) -> Result<OutputWithNotes, Fault>
+    ensures ok { IfOk result (λ noted. DoesStep calls.is_honest calls.file_bytes calls.place
+        (IsHanded at)
+        no_notes (calls.keep_in_file file.now) (traffic I.remaining reader.old reader.new)
         noted.output.text.items noted.output.refused noted.notes.items) }
     ensures refused { IfErr result (DoesNone (λ bytes _. IsRefusalOf bytes) (IsHanded at)
-        file.now (used I.remaining reader.old reader.new)) }
+        file.now (traffic I.remaining reader.old reader.new)) }
 {
     let given = take_input(rt, alloc, file, at, reader, journal)?;
     match step_output(alloc, given.reply, &given.answer) {
-        Ok(output) => Ok(Noted::bare(alloc, output)),
+        Ok(output) => Ok(OutputWithNotes::without_notes(alloc, output)),
         Err(fault) => Err(fault),
     }
 }

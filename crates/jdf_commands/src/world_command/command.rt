@@ -1,7 +1,7 @@
 //! The command `world`.
 
 ghost use Rattle.streams.specs.Ends.{Ends};
-ghost use Rattle.streams.specs.Streams.{used};
+ghost use Rattle.streams.specs.Streams.{traffic};
 ghost use Rattle.jdf_commands.specs.WorldCommand.Run.{IsOutput};
 ghost use Rattle.world_script.specs.Script.{IsRefusalOf};
 
@@ -44,8 +44,9 @@ pub fn run_world<R: Read, W: Write, F: Write>(
     // Proved: `world` writes, for a script, the answers of one ticket with one table, and that
     // ticket.
     // By `world_output::push_line`.
-    ensures { Ends IsOutput IsRefusalOf (used R.remaining reader.old reader.new)
-        (used W.contents writer.old writer.new) (used F.contents faults.old faults.new) result }
+    ensures { Ends IsOutput IsRefusalOf (traffic R.remaining reader.old reader.new)
+        (traffic W.contents writer.old writer.new)
+        (traffic F.contents faults.old faults.new) result }
 {
     run_command::<WorldCommand, R, W, F>(alloc, reader, writer, faults)
 }

@@ -37,8 +37,8 @@ fn push_lines(alloc: Global, text: &mut Vec<u8>, answers: &[Answer]) -> Result<(
 /// Lets events happen in a world, and tells what is written of that: the lines of the replay of the
 /// events in the shop that the world shows, and the ticket of the shop at the end. Refuses `Memory`
 /// alone.
-fn written_of(alloc: Global, world: &mut World, events: Vec<Event>) -> Result<Vec<u8>, Refusal>
-    ensures ok { IfOk result (λ text. text.items ≡ run.written_of events.items (shows world.old)) }
+fn run_text(alloc: Global, world: &mut World, events: Vec<Event>) -> Result<Vec<u8>, Refusal>
+    ensures ok { IfOk result (λ text. text.items ≡ run.run_text events.items (shows world.old)) }
     ensures memory { IfErr result (λ e. e ≡ Memory) }
 {
     let answers = world.run(alloc, events)?;
@@ -61,7 +61,7 @@ fn script_output(alloc: Global, script: Script) -> Result<Vec<u8>, Refusal>
         events,
     } = script;
     let mut world = World::new(alloc, master, workers, ticket)?;
-    written_of(alloc, &mut world, events.into_vec())
+    run_text(alloc, &mut world, events.into_vec())
 }
 
 /// What `world` writes for an input, or the first refusal of it: `NotJson`, `NotProfile`, `BadId`,

@@ -4,14 +4,14 @@ ghost use Rattle.std.specs.Prelude.{◌≤◌, IfOk};
 ghost use Rattle.std.specs.Option.{option_map};
 ghost use Rattle.jdf_send.specs.OrderCommand.{EndsSendOrder, GivesOn, GivesOrder, IsCome};
 ghost use Rattle.jdf_send.specs.OrderCommand.{IsWrittenOf, SendsOn};
-ghost use Rattle.streams.specs.Streams.{used};
+ghost use Rattle.streams.specs.Streams.{traffic};
 
 use crate::order_command::send_order::SendOrder;
 use crate::send_command::{DONE, SendTo, no_place, post, tell_no_peer, tell_no_url, tell_status};
 use http_message::MAX_BODY_BYTES;
 use jdf_commands::{
-    Caused, Ordered, answer_output, finish_noting, give_up_caused, order_in_file, order_noted,
-    step_output, take_in_file,
+    CausedFault, OrderOutput, answer_output, finish_noting, give_up_caused, order_in_file,
+    order_noted, step_output, take_in_file,
 };
 use jmf_message::{Reply, decode};
 use journal::Journal;
@@ -25,7 +25,7 @@ use ticket_tree::Refusal;
 
 /// What came of a message that was sent on.
 #[derive(Drop)]
-enum Came {
+enum OrderResult {
     /// The other controller refused it with this status.
     Refused(u16),
     /// The table of peers has no URL for its receiver.
@@ -35,7 +35,7 @@ enum Came {
 }
 
 /// What is written of an answer, which it hands to the controller in the file; nothing of none.
-fn taken<R: Locks, J: Journal>(
+fn take_answer<R: Locks, J: Journal>(
     rt: &R,
     alloc: Global,
     order: &SendOrder<'_>,
@@ -58,30 +58,30 @@ fn taken<R: Locks, J: Journal>(
 
 /// Posts a message to where it is sent, and has the controller in the file take the answer, if there
 /// is one. Gives up as `send` and `take` do.
-fn answered<R: Locks + Net + Clock, J: Journal>(
+fn post_order<R: Locks + Net + Clock, J: Journal>(
     rt: &R,
     alloc: Global,
     order: &SendOrder<'_>,
     to: &SendTo,
     message: &[u8],
     journal: &mut J,
-) -> Result<Came, Caused>
+) -> Result<OrderResult, CausedFault>
     ensures { IfOk result (IsCome order.now.file order.now.at) }
 {
     if message.len() > MAX_BODY_BYTES {
-        return Err(Caused::bare(Fault::Input(Refused::TooLarge)));
+        return Err(CausedFault::without_cause(Fault::Input(Refused::TooLarge)));
     }
     let destination = match to.destination(alloc, message)? {
         Some(destination) => destination,
-        None => return Ok(Came::NoPeer),
+        None => return Ok(OrderResult::NoPeer),
     };
     let received = post(rt, alloc, destination, message)?;
     if received.status != DONE {
-        return Ok(Came::Refused(received.status));
+        return Ok(OrderResult::Refused(received.status));
     }
-    match taken(rt, alloc, order, received.body.as_slice(), journal) {
-        Ok(output) => Ok(Came::Answered(output)),
-        Err(fault) => Err(Caused::at_path(rt, alloc, fault, order.file, "")),
+    match take_answer(rt, alloc, order, received.body.as_slice(), journal) {
+        Ok(output) => Ok(OrderResult::Answered(output)),
+        Err(fault) => Err(CausedFault::at_path(rt, alloc, fault, order.file, "")),
     }
 }
 
@@ -96,14 +96,14 @@ fn send_on<R: Locks + Net + Clock, W: Write, F: Write, J: Journal>(
     faults: &mut Counted<F>,
     journal: &mut J,
 ) -> u8
-    ensures sent { SendsOn order.now.file order.now.at (used W.contents writer.old writer.new)
-        (used F.contents faults.old faults.new) result }
+    ensures sent { SendsOn order.now.file order.now.at (traffic W.contents writer.old writer.new)
+        (traffic F.contents faults.old faults.new) result }
     ensures known { result ≤ 4 }
 {
-    match answered(rt, alloc, order, to, message, journal) {
-        Ok(Came::Answered(output)) => finish(Ok(output), writer, faults),
-        Ok(Came::Refused(status)) => tell_status(status, faults),
-        Ok(Came::NoPeer) => tell_no_peer(faults),
+    match post_order(rt, alloc, order, to, message, journal) {
+        Ok(OrderResult::Answered(output)) => finish(Ok(output), writer, faults),
+        Ok(OrderResult::Refused(status)) => tell_status(status, faults),
+        Ok(OrderResult::NoPeer) => tell_no_peer(faults),
         Err(caused) => give_up_caused(alloc, caused, faults),
     }
 }
@@ -122,7 +122,8 @@ fn give_on<R: Locks + Net + Clock, W: Write, F: Write, J: Journal>(
     journal: &mut J,
 ) -> u8
     ensures given { GivesOn order.now.file order.now.at reply
-        (used W.contents writer.old writer.new) (used F.contents faults.old faults.new) result }
+        (traffic W.contents writer.old writer.new)
+        (traffic F.contents faults.old faults.new) result }
     ensures known { result ≤ 4 }
 {
     let status = finish(step_output(alloc, reply, &None), writer, faults);
@@ -138,17 +139,18 @@ fn give_out<R: Locks + Net + Clock, W: Write, F: Write, J: Journal>(
     alloc: Global,
     order: &SendOrder<'_>,
     to: &SendTo,
-    given: Ordered,
+    given: OrderOutput,
     writer: &mut Counted<W>,
     faults: &mut Counted<F>,
     journal: &mut J,
 ) -> u8
     ensures given { GivesOrder order.now.file order.now.at given.reply
         (option_map (λ b. b.items) given.message) given.notes.items
-        (used W.contents writer.old writer.new) (used F.contents faults.old faults.new) result }
+        (traffic W.contents writer.old writer.new)
+        (traffic F.contents faults.old faults.new) result }
     ensures known { result ≤ 4 }
 {
-    let Ordered {
+    let OrderOutput {
         reply,
         message,
         notes,
@@ -204,8 +206,8 @@ pub fn run_send_order<R: Locks + Net + Clock, I: Read, W: Write, F: Write, J: Jo
     // status 2. The status is one of 0 to 4.
     // Not proved: that status 2 is for what is no URL: cases show it.
     ensures { EndsSendOrder order.now.file order.now.at order.now.url.now
-        (used I.remaining reader.old reader.new) (used W.contents writer.old writer.new)
-        (used F.contents faults.old faults.new) result }
+        (traffic I.remaining reader.old reader.new) (traffic W.contents writer.old writer.new)
+        (traffic F.contents faults.old faults.new) result }
 {
     let to = match SendTo::of(rt, alloc, order.url) {
         Ok(Some(to)) => to,
@@ -218,7 +220,7 @@ pub fn run_send_order<R: Locks + Net + Clock, I: Read, W: Write, F: Write, J: Jo
     match order_in_file(rt, alloc, order.file, order.at, reader, journal) {
         Ok(given) => give_out(rt, alloc, order, &to, given, writer, faults, journal),
         Err(fault) => {
-            let caused = Caused::at_path(rt, alloc, fault, order.file, "");
+            let caused = CausedFault::at_path(rt, alloc, fault, order.file, "");
             give_up_caused(alloc, caused, faults)
         }
     }

@@ -3,7 +3,7 @@
 use crate::input_file::{file_of, open_input};
 use crate::send_command::connecting::connect;
 use http_message::{MAX_BODY_BYTES, Received, receive, send_to};
-use jdf_commands::Caused;
+use jdf_commands::CausedFault;
 use peers_file::Destination;
 use std::alloc::Global;
 use std::io::{Read, Write};
@@ -24,7 +24,7 @@ pub(crate) fn read_message<R: Files, I: Read>(
     alloc: Global,
     file: Option<&str>,
     reader: &mut Counted<I>,
-) -> Result<Vec<u8>, Caused> {
+) -> Result<Vec<u8>, CausedFault> {
     let message = match file_of(file) {
         Some(path) => {
             let file = open_input(rt, alloc, path)?;
@@ -33,7 +33,7 @@ pub(crate) fn read_message<R: Files, I: Read>(
         None => read_named(alloc, "standard input", reader)?,
     };
     if message.len() > MAX_BODY_BYTES {
-        return Err(Caused::bare(Fault::Input(Refused::TooLarge)));
+        return Err(CausedFault::without_cause(Fault::Input(Refused::TooLarge)));
     }
     Ok(message)
 }
@@ -43,13 +43,13 @@ fn read_named<I: Read>(
     alloc: Global,
     name: &str,
     reader: &mut Counted<I>,
-) -> Result<Vec<u8>, Caused> {
+) -> Result<Vec<u8>, CausedFault> {
     match read_input(alloc, reader) {
         Ok(bytes) => Ok(bytes),
         Err(fault) if fault == Fault::Device(Refused::ReadFailed) => {
-            Err(Caused::at(alloc, fault, name))
+            Err(CausedFault::at(alloc, fault, name))
         }
-        Err(fault) => Err(Caused::bare(fault)),
+        Err(fault) => Err(CausedFault::without_cause(fault)),
     }
 }
 
@@ -61,20 +61,22 @@ pub(crate) fn post<R: Net + Clock>(
     alloc: Global,
     destination: &Destination,
     message: &[u8],
-) -> Result<Received, Caused> {
+) -> Result<Received, CausedFault> {
     let host = destination.authority();
     let limit = Duration::from_secs(EXCHANGE_SECONDS);
     let stream = match connect(rt, destination, limit) {
         Ok(stream) => stream,
         Err(error) => {
             let fault = Fault::Device(Refused::NoConnection);
-            return Err(Caused::of_error(alloc, fault, host, &error));
+            return Err(CausedFault::of_error(alloc, fault, host, &error));
         }
     };
     match exchange(alloc, destination, message, &mut Counted::new(stream)) {
         Ok(received) => Ok(received),
-        Err(Refused::Core(refusal)) => { Err(Caused::bare(Fault::Device(Refused::Core(refusal)))) }
-        Err(refused) => Err(Caused::at(alloc, Fault::Device(refused), host)),
+        Err(Refused::Core(refusal)) => {
+            Err(CausedFault::without_cause(Fault::Device(Refused::Core(refusal))))
+        }
+        Err(refused) => Err(CausedFault::at(alloc, Fault::Device(refused), host)),
     }
 }
 

@@ -6,13 +6,13 @@ ghost use Rattle.streams.specs.declared.refused.Refused.TheVariants.{Core};
 ghost use Rattle.streams.specs.declared.fault.Fault.TheVariants.{Input};
 ghost use Rattle.jdf_send.specs.SendCommand.{EndsAnswer, EndsSend, GivesAnswer, IsRefusalIn, IsUntold};
 ghost use Rattle.jdf_send.specs.SendCommand.{TellsRefusal, answer_line};
-ghost use Rattle.jdf_send.specs.declared.send_command.run.Came.TheVariants.{NoUrl};
-ghost use Rattle.streams.specs.Streams.{IsUntouched, used};
+ghost use Rattle.jdf_send.specs.declared.send_command.run.SendResult.TheVariants.{NoUrl};
+ghost use Rattle.streams.specs.Streams.{IsUntouched, traffic};
 
 use crate::send_command::exchanging::{post, read_message};
 use crate::send_command::send_to::{SendTo, no_place};
 use controller::answering::spawn_in;
-use jdf_commands::{Caused, give_up_caused, refused_by};
+use jdf_commands::{CausedFault, give_up_caused, refused_by};
 use jmf_message::{decode, refusal_told};
 use std::alloc::Global;
 use std::io::{Read, Write};
@@ -26,7 +26,7 @@ pub(crate) const DONE: u16 = 200;
 
 /// What came of a message.
 #[derive(Drop)]
-enum Came {
+enum SendResult {
     /// The text is no URL that a message can be sent to.
     NoUrl,
     /// The table of peers has no URL for the receiver of the message.
@@ -38,31 +38,31 @@ enum Came {
 }
 
 /// Sends a message, and gives what came of it.
-fn sent<R: Files + Net + Clock, I: Read>(
+fn post_message<R: Files + Net + Clock, I: Read>(
     rt: &R,
     alloc: Global,
     url: &str,
     file: Option<&str>,
     reader: &mut Counted<I>,
-) -> Result<Came, Caused>
+) -> Result<SendResult, CausedFault>
     ensures { IfOk result (λ came. came ≡ NoUrl
-        → IsUntouched (used I.remaining reader.old reader.new)) }
+        → IsUntouched (traffic I.remaining reader.old reader.new)) }
 {
     let to = match SendTo::of(rt, alloc, url) {
         Ok(Some(to)) => to,
-        Ok(None) => return Ok(Came::NoUrl),
+        Ok(None) => return Ok(SendResult::NoUrl),
         Err(fault) => return Err(no_place(rt, alloc, fault, url)),
     };
     let message = read_message(rt, alloc, file, reader)?;
     let destination = match to.destination(alloc, message.as_slice())? {
         Some(destination) => destination,
-        None => return Ok(Came::NoPeer),
+        None => return Ok(SendResult::NoPeer),
     };
     let received = post(rt, alloc, destination, message.as_slice())?;
     if received.status != DONE {
-        return Ok(Came::Refused(received.status));
+        return Ok(SendResult::Refused(received.status));
     }
-    Ok(Came::Answered(Vec::from_slice(alloc, received.body.as_slice())?))
+    Ok(SendResult::Answered(Vec::from_slice(alloc, received.body.as_slice())?))
 }
 
 /// The text of an answer on a line, nothing if it has none.
@@ -101,7 +101,7 @@ fn refusal_in(alloc: Global, answer: &[u8]) -> Result<Option<String>, Fault>
 
 /// Tells who refused, if an answer refuses; or why it is no message. Answers the exit status.
 fn tell_refusal<F: Write>(refusal: Result<Option<String>, Fault>, faults: &mut Counted<F>) -> u8
-    ensures { TellsRefusal refusal (used F.contents faults.old faults.new) result }
+    ensures { TellsRefusal refusal (traffic F.contents faults.old faults.new) result }
 {
     match refusal {
         Ok(None) => 0,
@@ -122,8 +122,8 @@ fn give_text<W: Write, F: Write>(
     writer: &mut Counted<W>,
     faults: &mut Counted<F>,
 ) -> u8
-    ensures { GivesAnswer answer.items (used W.contents writer.old writer.new)
-        (used F.contents faults.old faults.new) result }
+    ensures { GivesAnswer answer.items (traffic W.contents writer.old writer.new)
+        (traffic F.contents faults.old faults.new) result }
 {
     finish(answer_output(answer), writer, faults)
 }
@@ -135,8 +135,8 @@ fn give_answer<W: Write, F: Write>(
     writer: &mut Counted<W>,
     faults: &mut Counted<F>,
 ) -> u8
-    ensures { EndsAnswer answer.items (used W.contents writer.old writer.new)
-        (used F.contents faults.old faults.new) result }
+    ensures { EndsAnswer answer.items (traffic W.contents writer.old writer.new)
+        (traffic F.contents faults.old faults.new) result }
 {
     let refusal = refusal_in(alloc, answer.as_slice());
     let status = give_text(answer, writer, faults);
@@ -201,14 +201,15 @@ pub fn run_send<R: Files + Net + Clock, I: Read, W: Write, F: Write>(
     // the fault's line and status.
     // Not proved: that the answer is the one that came, and that 2 is for what is no URL: tests
     // show it.
-    ensures { EndsSend (used I.remaining reader.old reader.new)
-        (used W.contents writer.old writer.new) (used F.contents faults.old faults.new) result }
+    ensures { EndsSend (traffic I.remaining reader.old reader.new)
+        (traffic W.contents writer.old writer.new)
+        (traffic F.contents faults.old faults.new) result }
 {
-    match sent(rt, alloc, url, file, reader) {
-        Ok(Came::Answered(answer)) => give_answer(alloc, answer, writer, faults),
-        Ok(Came::Refused(status)) => tell_status(status, faults),
-        Ok(Came::NoUrl) => tell_no_url(url, faults),
-        Ok(Came::NoPeer) => tell_no_peer(faults),
+    match post_message(rt, alloc, url, file, reader) {
+        Ok(SendResult::Answered(answer)) => give_answer(alloc, answer, writer, faults),
+        Ok(SendResult::Refused(status)) => tell_status(status, faults),
+        Ok(SendResult::NoUrl) => tell_no_url(url, faults),
+        Ok(SendResult::NoPeer) => tell_no_peer(faults),
         Err(caused) => give_up_caused(alloc, caused, faults),
     }
 }

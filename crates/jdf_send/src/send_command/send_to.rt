@@ -3,7 +3,7 @@
 ghost use Rattle.std.specs.Prelude.{◌≡◌, IfErr, IfOk, option_copied};
 ghost use Rattle.jdf_send.specs.SendCommand.{GoesTo, IsNoPlace, IsPlaceIn, names_peers};
 
-use jdf_commands::Caused;
+use jdf_commands::CausedFault;
 use jmf_message::decode;
 use peers_file::{Destination, NO_PEERS, PeerTable, peers_in_file};
 use std::alloc::Global;
@@ -25,11 +25,11 @@ fn names_peers(text: &str) -> bool
 }
 
 /// Why it isn't known where a text says to send to, with what the system says of its peers' file.
-pub(crate) fn no_place<R: Files>(rt: &R, alloc: Global, fault: Fault, text: &str) -> Caused
+pub(crate) fn no_place<R: Files>(rt: &R, alloc: Global, fault: Fault, text: &str) -> CausedFault
     ensures { result.fault ≡ fault }
 {
     let path = text.strip_prefix('@').unwrap_or("");
-    Caused::at_path(rt, alloc, fault, path, NO_PEERS)
+    CausedFault::at_path(rt, alloc, fault, path, NO_PEERS)
 }
 
 impl SendTo {

@@ -4,17 +4,20 @@ ghost use Rattle.std.specs.Prelude.{Bool, List, Option, map, option_and_then, On
 ghost use Rattle.std.specs.List.{list_all};
 ghost use Rattle.serde_json.specs.Find.{get};
 ghost use Rattle.serde_json.specs.View.{items_of};
-ghost use Rattle.json_items.specs.Judged.{Finds, Reads, first_fault};
-ghost use Rattle.json_items.specs.Listed.{each, list_form, one_more};
+ghost use Rattle.json_items.specs.Validation.{Finds, Reads, first_fault};
+ghost use Rattle.json_items.specs.Listed.{items_read, list_form, one_more};
 
 use crate::members::found_members::first_of_two;
-use crate::{Form, FormIn, Judged};
+use crate::{Form, FormIn, Validation};
 use json_source::Source;
 use std::alloc::{AllocError, Global};
 use ticket_items::{Items, Refusal};
 
 /// Appends what was found to a list that was found.
-pub fn push_found<T: Drop>(found: &mut Judged<Items<T>>, next: Judged<T>) -> Result<(), AllocError>
+pub fn push_found<T: Drop>(
+    found: &mut Validation<Items<T>>,
+    next: Validation<T>,
+) -> Result<(), AllocError>
     ensures { OnOk result ((names : T → Bool) (texts : T → Bool) (read : Option (List T))
         (next_read : Option T)
         → Finds (first_fault (list_all names) (list_all texts)) found.old read
@@ -45,9 +48,9 @@ fn find_each<W, T: FormIn<W>, S: Source>(
     alloc: Global,
     items: &[S],
     setting: &W,
-) -> Result<Judged<Items<T>>, Refusal>
+) -> Result<Validation<Items<T>>, Refusal>
     ensures { Reads (list_all T.names_valid) (list_all T.texts_valid) result
-        (each (T.form_in setting.now) (items_of (map S.content items.now))) }
+        (items_read (T.form_in setting.now) (items_of (map S.content items.now))) }
 {
     let mut found = Ok(Items::new(Vec::with_capacity(alloc, items.len())?));
     for item in items {
@@ -64,7 +67,7 @@ pub fn find_list_in<W, T: FormIn<W>, S: Source>(
     value: &S,
     name: &str,
     setting: &W,
-) -> Result<Judged<Items<T>>, Refusal>
+) -> Result<Validation<Items<T>>, Refusal>
     // Proved: What is found of a list, of one more item of it, and of a text as an id is what its
     // form says.
     // By `push_found`, `id_in`.
@@ -83,7 +86,7 @@ impl<T: Form> Form for Items<T> {
 
     ghost has_texts = { list_all T.has_texts };
 
-    fn find<S: Source>(alloc: Global, value: &S) -> Result<Judged<Items<T>>, Refusal> {
+    fn find<S: Source>(alloc: Global, value: &S) -> Result<Validation<Items<T>>, Refusal> {
         let items = value.items().ok_or(Refusal::NotProfile)?;
         find_each(alloc, items, &())
     }

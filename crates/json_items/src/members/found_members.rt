@@ -4,12 +4,12 @@ ghost use Rattle.std.specs.Prelude.{◌≡◌, Bool, None, Option, Some, option_
 ghost use Rattle.std.specs.List.{list_all};
 ghost use Rattle.std.specs.Option.{option_map_or};
 ghost use Rattle.serde_json.specs.Find.{get};
-ghost use Rattle.json_items.specs.Judged.{Answers, Finds, Reads, both_read, first_fault};
-ghost use Rattle.json_items.specs.Judged.{first_of_two, judged, on_both};
-ghost use Rattle.json_items.specs.Listed.{pool_draft};
+ghost use Rattle.json_items.specs.Validation.{Answers, Finds, Reads, both_read, first_fault};
+ghost use Rattle.json_items.specs.Validation.{checked_draft, first_of_two, on_both};
+ghost use Rattle.json_items.specs.Listed.{pool_form};
 ghost use Rattle.json_items.specs.Members.{four_form, three_form, two_form};
 
-use crate::{Form, Judged};
+use crate::{Form, Validation};
 use json_source::Source;
 use std::alloc::Global;
 use ticket_items::{Items, Refusal};
@@ -20,7 +20,7 @@ pub fn find_under<T: Form, S: Source>(
     alloc: Global,
     value: &S,
     name: &str,
-) -> Result<Judged<T>, Refusal>
+) -> Result<Validation<T>, Refusal>
     // Proved: What is found under names is what the form of each says.
     // By `find_pool`, `find_attrs`, `find_two`, `find_three`, `find_four`, `find_five`,
     // `text_under`, `number_under`.
@@ -38,7 +38,7 @@ pub fn find_or<T: Form, S: Source>(
     value: &S,
     name: &str,
     absent: T,
-) -> Result<Judged<T>, Refusal>
+) -> Result<Validation<T>, Refusal>
     requires { first_fault T.has_names T.has_texts absent ≡ None }
     ensures { Reads T.has_names T.has_texts result
         (option_map_or T.form (get name.now (S.content value.now)) (Some absent)) }
@@ -60,7 +60,7 @@ pub fn first_of_two(one: Refusal, other: Option<Refusal>) -> Refusal
 }
 
 /// Two that were found, together.
-pub fn both<A: Drop, B: Drop>(one: Judged<A>, other: Judged<B>) -> Judged<(A, B)>
+pub fn zip<A: Drop, B: Drop>(one: Validation<A>, other: Validation<B>) -> Validation<(A, B)>
     // Proved: Of two things that were found the first fault stays.
     ensures { (names : A → Bool) (texts : A → Bool) (read : Option A)
         → (other_names : B → Bool) (other_texts : B → Bool) (other_read : Option B)
@@ -84,13 +84,13 @@ pub fn find_two<A: Form, B: Form, S: Source>(
     value: &S,
     name: &str,
     other_name: &str,
-) -> Result<Judged<(A, B)>, Refusal>
+) -> Result<Validation<(A, B)>, Refusal>
     ensures { Reads (on_both A.has_names B.has_names) (on_both A.has_texts B.has_texts) result
         (two_form name.now A.form other_name.now B.form (S.content value.now)) }
 {
     let one = find_under(alloc, value, name)?;
     let other = find_under(alloc, value, other_name)?;
-    Ok(both(one, other))
+    Ok(zip(one, other))
 }
 
 /// What is found under three names. Refuses `NotProfile` where nothing of its form stands under one
@@ -101,14 +101,14 @@ pub fn find_three<A: Form, B: Form, C: Form, S: Source>(
     first: &str,
     second: &str,
     third: &str,
-) -> Result<Judged<((A, B), C)>, Refusal>
+) -> Result<Validation<((A, B), C)>, Refusal>
     ensures { Reads (on_both (on_both A.has_names B.has_names) C.has_names)
         (on_both (on_both A.has_texts B.has_texts) C.has_texts) result
         (three_form first.now A.form second.now B.form third.now C.form (S.content value.now)) }
 {
     let pair = find_two(alloc, value, first, second)?;
     let last = find_under(alloc, value, third)?;
-    Ok(both(pair, last))
+    Ok(zip(pair, last))
 }
 
 /// What is found under four names. Refuses `NotProfile` where nothing of its form stands under one
@@ -120,7 +120,7 @@ pub fn find_four<A: Form, B: Form, C: Form, D: Form, S: Source>(
     second: &str,
     third: &str,
     fourth: &str,
-) -> Result<Judged<(((A, B), C), D)>, Refusal>
+) -> Result<Validation<(((A, B), C), D)>, Refusal>
     ensures { Reads (on_both (on_both (on_both A.has_names B.has_names) C.has_names) D.has_names)
         (on_both (on_both (on_both A.has_texts B.has_texts) C.has_texts) D.has_texts) result
         (four_form first.now A.form second.now B.form third.now C.form fourth.now D.form
@@ -128,7 +128,7 @@ pub fn find_four<A: Form, B: Form, C: Form, D: Form, S: Source>(
 {
     let three = find_three(alloc, value, first, second, third)?;
     let last = find_under(alloc, value, fourth)?;
-    Ok(both(three, last))
+    Ok(zip(three, last))
 }
 
 /// What is found under five names. Refuses `NotProfile` where nothing of its form stands under one
@@ -141,7 +141,7 @@ pub fn find_five<A: Form, B: Form, C: Form, D: Form, E: Form, S: Source>(
     third: &str,
     fourth: &str,
     fifth: &str,
-) -> Result<Judged<((((A, B), C), D), E)>, Refusal>
+) -> Result<Validation<((((A, B), C), D), E)>, Refusal>
     ensures { Reads (on_both (on_both (on_both (on_both A.has_names B.has_names) C.has_names)
         D.has_names) E.has_names)
         (on_both (on_both (on_both (on_both A.has_texts B.has_texts) C.has_texts)
@@ -152,7 +152,7 @@ pub fn find_five<A: Form, B: Form, C: Form, D: Form, E: Form, S: Source>(
 {
     let four = find_four(alloc, value, first, second, third, fourth)?;
     let last = find_under(alloc, value, fifth)?;
-    Ok(both(four, last))
+    Ok(zip(four, last))
 }
 
 /// What is found in the list under a name, an empty one where nothing stands there. Refuses
@@ -161,20 +161,20 @@ pub fn find_pool<T: Form, S: Source>(
     alloc: Global,
     value: &S,
     name: &str,
-) -> Result<Judged<Items<T>>, Refusal>
+) -> Result<Validation<Items<T>>, Refusal>
     ensures { Reads (list_all T.has_names) (list_all T.has_texts) result
-        (pool_draft T.form (get name.now (S.content value.now))) }
+        (pool_form T.form (get name.now (S.content value.now))) }
 {
     find_or(alloc, value, name, Items::new(Vec::new(alloc)))
 }
 
 /// The whole that a value is. Refuses the first of `NotProfile`, `BadId` and `BadText` that stands
 /// in it, and `Memory`.
-pub fn whole_in<T: Form, S: Source>(alloc: Global, value: &S) -> Result<T, Refusal>
+pub fn read_whole_in<T: Form, S: Source>(alloc: Global, value: &S) -> Result<T, Refusal>
     // Proved: A value that is wanted whole is answered, or refused as `NotProfile` where nothing
     // of its form is there, or for the first of `BadId` and `BadText`.
     ensures { Answers result
-        (judged (first_fault T.has_names T.has_texts) (T.form (S.content value.now))) }
+        (checked_draft (first_fault T.has_names T.has_texts) (T.form (S.content value.now))) }
 {
     T::find(alloc, value)?
 }

@@ -8,12 +8,12 @@ use json_source::Source;
 use ticket_items::Refusal;
 
 /// Refuses `NotProfile` unless the value is an object with no other members than these.
-pub fn only<S: Source>(value: &S, names: &[&str]) -> Result<(), Refusal>
+pub fn check_members<S: Source>(value: &S, names: &[&str]) -> Result<(), Refusal>
     // Proved: It is told whether an object has members of these names alone, and never refused for
     // want of memory.
     // By `read`, `refused`.
     ensures read { form.Gives (λ u. u) result
-        (form.provided (form.has_only (map (λ n. n.now) names.now) (S.content value.now))) }
+        (form.some_if (form.has_only (map (λ n. n.now) names.now) (S.content value.now))) }
     ensures refused { IfErr result (λ e. e ≡ Refusal.NotProfile) }
 {
     if value.has_only(names) {

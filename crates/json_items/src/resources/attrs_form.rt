@@ -6,11 +6,11 @@ ghost use Rattle.serde_json.specs.Find.{get};
 ghost use Rattle.ticket_items.specs.Attrs.{IsInOrder, with_attr};
 ghost use Rattle.ticket_items.specs.Names as names;
 ghost use Rattle.json_items.specs.Attributes as attributes;
-ghost use Rattle.json_items.specs.Judged.{Reads};
-ghost use Rattle.json_source.specs.Read.{attrs_draft, attrs_of, lent_pairs};
+ghost use Rattle.json_items.specs.Validation.{Reads};
+ghost use Rattle.json_source.specs.Read.{attrs_form, attrs_of, lent_pairs};
 
 use crate::members::found_members::find_or;
-use crate::{Form, Judged};
+use crate::{Form, Validation};
 use json_source::Source;
 use std::alloc::Global;
 use std::marker::Model;
@@ -37,8 +37,8 @@ fn set_attr(alloc: Global, attrs: &mut Attrs, name: &str, text: &str) -> Result<
     ensures ok { OnOk result (attrs.new ≡ with_attr name.now text.now attrs.old) }
     ensures memory { IfErr result (λ e. e ≡ Refusal.Memory) }
 {
-    let name = Name::known(alloc, name)?;
-    let text = Text::known(alloc, text)?;
+    let name = Name::from_valid(alloc, name)?;
+    let text = Text::from_valid(alloc, text)?;
     attrs.set(name, text)?;
     Ok(())
 }
@@ -60,14 +60,14 @@ fn build_attrs(alloc: Global, pairs: &[(&str, &str)]) -> Result<Attrs, Refusal>
 }
 
 impl Form for Attrs {
-    ghost form = { attrs_draft };
+    ghost form = { attrs_form };
 
     ghost has_names = { attributes.attrs_have_names };
 
     ghost has_texts = { attributes.attrs_have_texts };
 
     #[tactic(auto, using(crate::proofs::Tests::all_mapped))]
-    fn find<S: Source>(alloc: Global, value: &S) -> Result<Judged<Attrs>, Refusal> {
+    fn find<S: Source>(alloc: Global, value: &S) -> Result<Validation<Attrs>, Refusal> {
         let pairs = value.texts(alloc)?;
         if !are_names(pairs.as_slice()) {
             return Ok(Err(Refusal::BadId));
@@ -81,7 +81,7 @@ impl Form for Attrs {
 
 /// What is found of the attributes under `Attr`, none where nothing stands there. Refuses
 /// `NotProfile` where something else does, and `Memory`.
-pub fn find_attrs<S: Source>(alloc: Global, value: &S) -> Result<Judged<Attrs>, Refusal>
+pub fn find_attrs<S: Source>(alloc: Global, value: &S) -> Result<Validation<Attrs>, Refusal>
     ensures { Reads attributes.attrs_have_names attributes.attrs_have_texts result
         (attrs_of (get (codes "Attr") (S.content value.now))) }
 {

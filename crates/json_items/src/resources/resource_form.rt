@@ -3,7 +3,7 @@
 
 ghost use Rattle.json_items.specs.Resources as resources;
 
-use crate::{Form, Judged, both, find_attrs, find_four};
+use crate::{Form, Validation, find_attrs, find_four, zip};
 use json_source::Source;
 use std::alloc::Global;
 use ticket_items::{Refusal, Resource};
@@ -16,10 +16,10 @@ impl Form for Resource {
     ghost has_texts = { resources.resource_has_texts };
 
     #[tactic(auto, unfolding(crate::specs::Resources::own_resource))]
-    fn find<S: Source>(alloc: Global, value: &S) -> Result<Judged<Resource>, Refusal> {
+    fn find<S: Source>(alloc: Global, value: &S) -> Result<Validation<Resource>, Refusal> {
         let names = find_four(alloc, value, "Class", "ID", "Name", "Status")?;
         let attrs = find_attrs(alloc, value)?;
-        let ((((class, id), name), status), attrs) = match both(names, attrs) {
+        let ((((class, id), name), status), attrs) = match zip(names, attrs) {
             Ok(found) => found,
             Err(refusal) => return Ok(Err(refusal)),
         };

@@ -4,14 +4,14 @@ ghost use Rattle.std.specs.Prelude.{◌≡◌, ◌∷◌, [], true, IfOk};
 ghost use Rattle.json_items.specs.Shown as shown;
 
 use crate::members::found_members::find_or;
-use crate::{AnyText, Form, Judged, find_pool};
+use crate::{AnyText, Form, Validation, find_pool};
 use json_source::Source;
 use std::alloc::{AllocError, Global};
 use ticket_items::{Items, Refusal, SpawnStatus};
 
 /// What a resource shows of the spawns that copied it (JDF 1.5, 3.8).
 #[derive(Drop)]
-pub struct Shown {
+pub struct Showing {
     /// Whether the resource may not be changed.
     pub locked: bool,
     /// The ids of the spawns.
@@ -34,15 +34,15 @@ fn are_only(texts: &[AnyText], text: &str) -> bool
     texts.len() == 1 && texts.iter().all(|other| other.as_str() == text)
 }
 
-impl Shown {
+impl Showing {
     /// Nothing, which absent members mean too.
-    pub fn nothing(alloc: Global) -> Shown
+    pub fn nothing(alloc: Global) -> Showing
         // Proved: What a resource shows of spawns is told.
-        // By `Shown::rw`, `Shown::ro`, `Shown::shows_nothing`, `Shown::is_change`,
-        // `Shown::is_read`.
+        // By `Showing::rw`, `Showing::ro`, `Showing::shows_nothing`, `Showing::is_change`,
+        // `Showing::is_read`.
         ensures { result ≡ shown.nothing_shown }
     {
-        Shown {
+        Showing {
             locked: false,
             spawn_ids: Items::new(Vec::new(alloc)),
             spawn_status: SpawnStatus::NotSpawned,
@@ -50,10 +50,10 @@ impl Shown {
     }
 
     /// What a copy shows that may be changed, of the spawn of this text.
-    pub fn rw(alloc: Global, spawn: &str) -> Result<Shown, AllocError>
+    pub fn rw(alloc: Global, spawn: &str) -> Result<Showing, AllocError>
         ensures { IfOk result (λ s. s ≡ shown.shown_rw spawn.now) }
     {
-        Ok(Shown {
+        Ok(Showing {
             locked: false,
             spawn_ids: one_text(alloc, spawn)?,
             spawn_status: SpawnStatus::SpawnedRW,
@@ -61,10 +61,10 @@ impl Shown {
     }
 
     /// What a copy shows that may be read alone, of the spawn of this text.
-    pub fn ro(alloc: Global, spawn: &str) -> Result<Shown, AllocError>
+    pub fn ro(alloc: Global, spawn: &str) -> Result<Showing, AllocError>
         ensures { IfOk result (λ s. s ≡ shown.shown_ro spawn.now) }
     {
-        Ok(Shown {
+        Ok(Showing {
             locked: true,
             spawn_ids: one_text(alloc, spawn)?,
             spawn_status: SpawnStatus::SpawnedRO,
@@ -99,16 +99,16 @@ impl Shown {
     }
 }
 
-impl Form for Shown {
-    ghost form = { shown.shown_draft };
+impl Form for Showing {
+    ghost form = { shown.shown_form };
 
     ghost has_names = { λ _. true };
 
     ghost has_texts = { λ _. true };
 
-    #[tactic(auto, unfolding(crate::specs::Shown::shown_draft), using(crate::proofs::Tests::all_true))]
-    fn find<S: Source>(alloc: Global, value: &S) -> Result<Judged<Shown>, Refusal> {
-        Ok(Ok(Shown {
+    #[tactic(auto, unfolding(crate::specs::Showing::shown_draft), using(crate::proofs::Tests::all_true))]
+    fn find<S: Source>(alloc: Global, value: &S) -> Result<Validation<Showing>, Refusal> {
+        Ok(Ok(Showing {
             locked: find_or(alloc, value, "Locked", false)??,
             spawn_ids: find_pool(alloc, value, "SpawnIDs")??,
             spawn_status: find_or(alloc, value, "SpawnStatus", SpawnStatus::NotSpawned)??,

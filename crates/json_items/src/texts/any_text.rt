@@ -1,7 +1,7 @@
 ghost use Rattle.std.specs.Prelude.{◌≡◌, true, IfOk};
 ghost use Rattle.serde_json.specs.Find.{as_str};
 
-use crate::{Form, Judged};
+use crate::{Form, Validation};
 use json_source::Source;
 use std::alloc::{AllocError, Global};
 use std::marker::Model;
@@ -57,7 +57,7 @@ impl Form for AnyText {
 
     ghost has_texts = { λ _. true };
 
-    fn find<S: Source>(alloc: Global, value: &S) -> Result<Judged<AnyText>, Refusal> {
+    fn find<S: Source>(alloc: Global, value: &S) -> Result<Validation<AnyText>, Refusal> {
         let text = value.text().ok_or(Refusal::NotProfile)?;
         Ok(Ok(AnyText::new(alloc, text)?))
     }

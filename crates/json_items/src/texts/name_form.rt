@@ -2,7 +2,7 @@ ghost use Rattle.std.specs.Prelude.{true};
 ghost use Rattle.serde_json.specs.Find.{as_str};
 ghost use Rattle.ticket_items.specs.Names as names;
 
-use crate::{Form, Judged};
+use crate::{Form, Validation};
 use json_source::Source;
 use std::alloc::Global;
 use ticket_items::{Name, Refusal, is_name};
@@ -14,11 +14,11 @@ impl Form for Name {
 
     ghost has_texts = { λ _. true };
 
-    fn find<S: Source>(alloc: Global, value: &S) -> Result<Judged<Name>, Refusal> {
+    fn find<S: Source>(alloc: Global, value: &S) -> Result<Validation<Name>, Refusal> {
         let text = value.text().ok_or(Refusal::NotProfile)?;
         if !is_name(text) {
             return Ok(Err(Refusal::BadId));
         }
-        Ok(Ok(Name::known(alloc, text)?))
+        Ok(Ok(Name::from_valid(alloc, text)?))
     }
 }

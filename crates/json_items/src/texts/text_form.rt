@@ -2,7 +2,7 @@ ghost use Rattle.std.specs.Prelude.{true};
 ghost use Rattle.serde_json.specs.Find.{as_str};
 ghost use Rattle.ticket_items.specs.Names as names;
 
-use crate::{Form, Judged};
+use crate::{Form, Validation};
 use json_source::Source;
 use std::alloc::Global;
 use ticket_items::{Refusal, Text, is_text};
@@ -14,11 +14,11 @@ impl Form for Text {
 
     ghost has_texts = { names.is_text };
 
-    fn find<S: Source>(alloc: Global, value: &S) -> Result<Judged<Text>, Refusal> {
+    fn find<S: Source>(alloc: Global, value: &S) -> Result<Validation<Text>, Refusal> {
         let text = value.text().ok_or(Refusal::NotProfile)?;
         if !is_text(text) {
             return Ok(Err(Refusal::BadText));
         }
-        Ok(Ok(Text::known(alloc, text)?))
+        Ok(Ok(Text::from_valid(alloc, text)?))
     }
 }

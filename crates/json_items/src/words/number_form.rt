@@ -1,7 +1,7 @@
 ghost use Rattle.std.specs.Prelude.{true};
 ghost use Rattle.json_source.specs.Read.{number_of};
 
-use crate::{Form, Judged};
+use crate::{Form, Validation};
 use json_source::Source;
 use std::alloc::Global;
 use ticket_items::Refusal;
@@ -13,7 +13,7 @@ impl Form for u64 {
 
     ghost has_texts = { λ _. true };
 
-    fn find<S: Source>(_alloc: Global, value: &S) -> Result<Judged<u64>, Refusal> {
+    fn find<S: Source>(_alloc: Global, value: &S) -> Result<Validation<u64>, Refusal> {
         Ok(Ok(value.whole_number().ok_or(Refusal::NotProfile)?))
     }
 }

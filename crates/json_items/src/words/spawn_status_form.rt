@@ -3,7 +3,7 @@
 ghost use Rattle.std.specs.Prelude.{◌≡◌, true};
 ghost use Rattle.json_items.specs.Shown as shown;
 
-use crate::{Form, Judged};
+use crate::{Form, Validation};
 use json_source::Source;
 use std::alloc::Global;
 use ticket_items::{Refusal, SpawnStatus};
@@ -15,7 +15,7 @@ impl Form for SpawnStatus {
 
     ghost has_texts = { λ _. true };
 
-    fn find<S: Source>(_alloc: Global, value: &S) -> Result<Judged<SpawnStatus>, Refusal> {
+    fn find<S: Source>(_alloc: Global, value: &S) -> Result<Validation<SpawnStatus>, Refusal> {
         match value.text().ok_or(Refusal::NotProfile)? {
             "NotSpawned" => Ok(Ok(SpawnStatus::NotSpawned)),
             "SpawnedRO" => Ok(Ok(SpawnStatus::SpawnedRO)),

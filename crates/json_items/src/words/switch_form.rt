@@ -1,7 +1,7 @@
 ghost use Rattle.std.specs.Prelude.{true};
 ghost use Rattle.serde_json.specs.Find.{as_bool};
 
-use crate::{Form, Judged};
+use crate::{Form, Validation};
 use json_source::Source;
 use std::alloc::Global;
 use ticket_items::Refusal;
@@ -13,7 +13,7 @@ impl Form for bool {
 
     ghost has_texts = { λ _. true };
 
-    fn find<S: Source>(_alloc: Global, value: &S) -> Result<Judged<bool>, Refusal> {
+    fn find<S: Source>(_alloc: Global, value: &S) -> Result<Validation<bool>, Refusal> {
         Ok(Ok(value.truth().ok_or(Refusal::NotProfile)?))
     }
 }

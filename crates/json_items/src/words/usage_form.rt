@@ -3,7 +3,7 @@
 ghost use Rattle.std.specs.Prelude.{◌≡◌, true};
 ghost use Rattle.json_items.specs.Links as links;
 
-use crate::{Form, Judged};
+use crate::{Form, Validation};
 use json_source::Source;
 use std::alloc::Global;
 use ticket_items::{Refusal, Usage};
@@ -15,7 +15,7 @@ impl Form for Usage {
 
     ghost has_texts = { λ _. true };
 
-    fn find<S: Source>(_alloc: Global, value: &S) -> Result<Judged<Usage>, Refusal> {
+    fn find<S: Source>(_alloc: Global, value: &S) -> Result<Validation<Usage>, Refusal> {
         match value.text().ok_or(Refusal::NotProfile)? {
             "Input" => Ok(Ok(Usage::Input)),
             "Output" => Ok(Ok(Usage::Output)),

@@ -1,12 +1,12 @@
 ghost use Rattle.json_items.specs.Ancestors as ancestors;
 
 use crate::members::print_member;
-use crate::printed::Printed;
+use crate::printed::PrintForm;
 use json::Writer;
 use std::alloc::AllocError;
 use ticket_items::Ancestor;
 
-impl Printed for Ancestor {
+impl PrintForm for Ancestor {
     ghost written = { ancestors.ancestor_data };
 
     #[tactic(auto, unfolding(json_items::specs::Ancestors::ancestor_has_names))]

@@ -1,12 +1,12 @@
 ghost use Rattle.json_items.specs.Attributes as attributes;
 
 use crate::members::print_text;
-use crate::printed::Printed;
+use crate::printed::PrintForm;
 use json::Writer;
 use std::alloc::AllocError;
 use ticket_items::Attrs;
 
-impl Printed for Attrs {
+impl PrintForm for Attrs {
     ghost written = { attributes.attrs_data };
 
     fn print(&self, out: &mut Writer) -> Result<(), AllocError> {

@@ -1,12 +1,12 @@
 ghost use Rattle.json_items.specs.Audits as audits;
 
 use crate::members::{print_member, print_text};
-use crate::printed::Printed;
+use crate::printed::PrintForm;
 use json::Writer;
 use std::alloc::AllocError;
 use ticket_items::Audit;
 
-impl Printed for Audit {
+impl PrintForm for Audit {
     ghost written = { audits.audit_data };
 
     #[tactic(auto, unfolding(json_items::specs::Audits::audit_has_names, json_items::specs::Audits::audit_has_texts))]

@@ -9,13 +9,13 @@ ghost use Rattle.json_text.specs.EditWritten.{attr_edit_members, two_members};
 ghost use Rattle.json_text.specs.Printed.{AreInOrder, IsPrinted};
 
 use crate::members::{print_member, print_text};
-use crate::printed::Printed;
+use crate::printed::PrintForm;
 use json::Writer;
 use std::alloc::AllocError;
 use ticket_items::{Edit, Id, Link, Name, Resource, Text};
 
 /// Prints an edit of a kind by two more members. Their names and texts are valid.
-fn print_two<A: Printed, B: Printed>(
+fn print_two<A: PrintForm, B: PrintForm>(
     out: &mut Writer,
     kind: &str,
     one_name: &str,
@@ -126,7 +126,7 @@ fn print_add_link(out: &mut Writer, node: &Id, link: &Link) -> Result<(), AllocE
     out.end_object()
 }
 
-impl Printed for Edit {
+impl PrintForm for Edit {
     ghost written = { edits.edit_data };
 
     fn print(&self, out: &mut Writer) -> Result<(), AllocError> {

@@ -1,12 +1,12 @@
 ghost use Rattle.json_items.specs.Links as links;
 
 use crate::members::print_member;
-use crate::printed::Printed;
+use crate::printed::PrintForm;
 use json::Writer;
 use std::alloc::AllocError;
 use ticket_items::Link;
 
-impl Printed for Link {
+impl PrintForm for Link {
     ghost written = { links.link_data };
 
     fn print(&self, out: &mut Writer) -> Result<(), AllocError> {

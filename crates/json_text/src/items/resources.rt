@@ -4,13 +4,17 @@ ghost use Rattle.json_text.specs.Printed.{IsPrinted};
 
 use crate::members::print_member;
 use json::Writer;
-use json_items::Shown;
+use json_items::Showing;
 use std::alloc::AllocError;
 use ticket_items::Resource;
 
 /// Prints a resource that shows this of spawns. Its names and texts are valid.
 #[tactic(auto, unfolding(json_items::specs::Resources::resource_has_names, json_items::specs::Resources::resource_has_texts))]
-pub fn print_marked(out: &mut Writer, resource: &Resource, shown: &Shown) -> Result<(), AllocError>
+pub fn print_marked(
+    out: &mut Writer,
+    resource: &Resource,
+    shown: &Showing,
+) -> Result<(), AllocError>
     ensures printed { OnOk result
         (IsPrinted (resources.resource_data shown.now resource.now) out.old out.new) }
     ensures names { OnOk result (resources.resource_has_names resource.now ≡ true) }

@@ -11,7 +11,7 @@ use ticket_tree::{Duplicate, Id, NodeRow, Resource, Rows};
 
 /// A row, so many levels higher.
 fn lifted_row(alloc: Global, row: &NodeRow, levels: u32) -> Result<NodeRow, AllocError>
-    ensures { IfOk result (λ r. r ≡ parts.lifted levels row.now) }
+    ensures { IfOk result (λ r. r ≡ parts.lifted_row levels row.now) }
 {
     let mut copy = row.copy(alloc)?;
     copy.depth = copy.depth.saturating_sub(levels);
@@ -20,7 +20,7 @@ fn lifted_row(alloc: Global, row: &NodeRow, levels: u32) -> Result<NodeRow, Allo
 
 /// The rows, each so many levels higher.
 pub fn lifted_rows(alloc: Global, rows: &Rows<'_>, levels: u32) -> Result<Vec<NodeRow>, AllocError>
-    ensures { IfOk result (λ v. v.items ≡ map (parts.lifted levels) rows.now) }
+    ensures { IfOk result (λ v. v.items ≡ map (parts.lifted_row levels) rows.now) }
 {
     let mut lifted = Vec::with_capacity(alloc, rows.len())?;
     for place in 0..rows.len() {

@@ -1,7 +1,7 @@
 //! The part that goes out with a spawn.
 
 ghost use Rattle.std.specs.Prelude.{◌≡◌, ◌-◌, [], true, map, take, IfOk, IfErr};
-ghost use Rattle.ticket_tree.specs.Part.{copied};
+ghost use Rattle.ticket_tree.specs.Part.{part_copy};
 ghost use Rattle.ticket_rows.specs.Copies.{with_copies};
 ghost use Rattle.ticket_rows.specs.Ticket.{IsValid};
 ghost use Rattle.spawn.specs.Parts as parts;
@@ -16,11 +16,11 @@ use ticket_tree::{At, Duplicate, Items, Part, Refusal, Ticket};
 /// The part of a spawn of the node at which the ticket is seen.
 fn part_at(alloc: Global, ticket: &Ticket, spawn: &SpawnRec, at: &At<'_>) -> Result<Part, Refusal>
     requires { IsValid
-        (with_copies (map (parts.lifted (at.now.depth - 1)) at.now.below)
+        (with_copies (map (parts.lifted_row (at.now.depth - 1)) at.now.below)
         (parts.resources_among spawn.now.rw ticket.now.rows) spawn.now.ro) }
-    ensures ok { IfOk result (λ p. p ≡ copied ticket.now.job_id spawn.now.id
+    ensures ok { IfOk result (λ p. p ≡ part_copy ticket.now.job_id spawn.now.id
         (map parts.as_ancestor (take (at.now.depth - 1) (parts.way_from [] at.now.front)))
-        (map (parts.lifted (at.now.depth - 1)) at.now.below)
+        (map (parts.lifted_row (at.now.depth - 1)) at.now.below)
         (parts.resources_among spawn.now.rw ticket.now.rows) spawn.now.ro) }
     ensures memory { IfErr result (λ e. e ≡ Refusal.Memory) }
 {
@@ -31,7 +31,7 @@ fn part_at(alloc: Global, ticket: &Ticket, spawn: &SpawnRec, at: &At<'_>) -> Res
     let ro = spawn.ro.copy(alloc)?;
     let job = ticket.job().copy(alloc)?;
     let (ancestors, rw) = (Items::new(ancestors), Items::new(rw));
-    Ok(Part::known(job, spawn.id, ancestors, below, rw, ro))
+    Ok(Part::from_valid(job, spawn.id, ancestors, below, rw, ro))
 }
 
 /// The part of a spawn that is out (JDF 1.5, 4.4): the ticket's rows of the node and below it, and

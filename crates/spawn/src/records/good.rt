@@ -14,25 +14,30 @@ use ticket_tree::{At, Id, Resource, Rows, Ticket, is_linked};
 
 /// The copies of a record that weren't met yet, on the way through a ticket's resources.
 #[derive(Clone, Copy)]
-struct Left<'a> {
+struct UnmetCopies<'a> {
     rw: &'a [Id],
     ro: &'a [Resource],
 }
 
 /// What is left behind a resource.
-fn meet<'a>(inside: &Rows<'_>, rw: &[Id], resource: &Resource, left: Left<'a>) -> Option<Left<'a>>
+fn meet<'a>(
+    inside: &Rows<'_>,
+    rw: &[Id],
+    resource: &Resource,
+    left: UnmetCopies<'a>,
+) -> Option<UnmetCopies<'a>>
     ensures { option_map (λ l. (l.rw.now, l.ro.now)) result
-        ≡ walk.met inside.now rw.now resource.now (left.entry.rw.now, left.entry.ro.now) }
+        ≡ walk.unmet_behind inside.now rw.now resource.now (left.entry.rw.now, left.entry.ro.now) }
 {
     if !is_linked(inside, &resource.id) {
         return Some(left);
     }
     if is_among(rw, &resource.id) {
         let rw = behind(left.rw, resource)?;
-        Some(Left { rw, ..left })
+        Some(UnmetCopies { rw, ..left })
     } else {
         let ro = behind(left.ro, resource)?;
-        Some(Left { ro, ..left })
+        Some(UnmetCopies { ro, ..left })
     }
 }
 
@@ -41,10 +46,10 @@ fn meet_pool<'a>(
     inside: &Rows<'_>,
     rw: &[Id],
     pool: &[Resource],
-    mut left: Left<'a>,
-) -> Option<Left<'a>>
+    mut left: UnmetCopies<'a>,
+) -> Option<UnmetCopies<'a>>
     ensures { option_map (λ l. (l.rw.now, l.ro.now)) result
-        ≡ walk.all_met inside.now rw.now pool.now (left.entry.rw.now, left.entry.ro.now) }
+        ≡ walk.unmet_behind_all inside.now rw.now pool.now (left.entry.rw.now, left.entry.ro.now) }
 {
     for resource in pool {
         left = meet(inside, rw, resource, left)?;
@@ -57,10 +62,10 @@ fn meet_rows<'a>(
     inside: &Rows<'_>,
     rw: &[Id],
     rows: &Rows<'_>,
-    mut left: Left<'a>,
-) -> Option<Left<'a>>
+    mut left: UnmetCopies<'a>,
+) -> Option<UnmetCopies<'a>>
     ensures { option_map (λ l. (l.rw.now, l.ro.now)) result
-        ≡ walk.all_met inside.now rw.now (resources rows.now)
+        ≡ walk.unmet_behind_all inside.now rw.now (resources rows.now)
         (left.entry.rw.now, left.entry.ro.now) }
 {
     for place in 0..rows.len() {
@@ -72,14 +77,14 @@ fn meet_rows<'a>(
 
 /// What is left of the copies of a record behind the resources before its node, and behind those
 /// after it and all below it.
-fn left_of<'a>(at: &At<'_>, spawn: &'a SpawnRec) -> Option<Left<'a>>
+fn unmet_copies_of<'a>(at: &At<'_>, spawn: &'a SpawnRec) -> Option<UnmetCopies<'a>>
     ensures { option_map (λ l. (l.rw.now, l.ro.now)) result
-        ≡ walk.all_met at.now.below spawn.now.rw
+        ≡ walk.unmet_behind_all at.now.below spawn.now.rw
         (resources at.now.front ++ resources at.now.behind) (spawn.now.rw, spawn.now.ro) }
 {
     let rw = spawn.rw.as_slice();
     let ro = spawn.ro.as_slice();
-    let left = meet_rows(&at.below, rw, &at.front, Left { rw, ro })?;
+    let left = meet_rows(&at.below, rw, &at.front, UnmetCopies { rw, ro })?;
     meet_rows(&at.below, rw, &at.behind, left)
 }
 
@@ -88,11 +93,11 @@ fn left_of<'a>(at: &At<'_>, spawn: &'a SpawnRec) -> Option<Left<'a>>
 fn has_copies(at: &At<'_>, spawn: &SpawnRec) -> bool
     ensures { result
         ≡ option_map_or walk.are_none
-        (walk.all_met at.now.below spawn.now.rw
+        (walk.unmet_behind_all at.now.below spawn.now.rw
         (resources at.now.front ++ resources at.now.behind)
         (spawn.now.rw, spawn.now.ro)) false }
 {
-    match left_of(at, spawn) {
+    match unmet_copies_of(at, spawn) {
         None => false,
         Some(left) => left.rw.is_empty() && left.ro.is_empty(),
     }

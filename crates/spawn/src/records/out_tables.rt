@@ -8,7 +8,7 @@ ghost use Rattle.ticket_items.specs.Ids.{mem};
 ghost use Rattle.ticket_items.specs.Resource.{resource_ids};
 ghost use Rattle.spawn.specs.IdSet.{IsSetOf};
 ghost use Rattle.spawn.specs.Marking as marking;
-ghost use Rattle.spawn.specs.OutTables.{numbers_in, pushed, if_any};
+ghost use Rattle.spawn.specs.OutTables.{if_any, numbers_in, numbers_with};
 
 use crate::claims::id_set::{IdSet, add, add_all};
 use crate::records::spawn_rec::SpawnRec;
@@ -24,7 +24,7 @@ pub fn records_out<'a>(
     alloc: Global,
     records: &'a [SpawnRec],
 ) -> Result<Vec<&'a SpawnRec>, AllocError>
-    ensures { IfOk result (λ out. map (λ s. s.now) out.items ≡ marking.out records.now) }
+    ensures { IfOk result (λ out. map (λ s. s.now) out.items ≡ marking.records_out records.now) }
 {
     let mut out = Vec::new(alloc);
     for spawn in records {
@@ -79,7 +79,8 @@ fn push_number<'a>(
     number: SpawnId,
 ) -> Result<(), AllocError>
     ensures { OnOk result ((x : List ℕ)
-        → numbers_in numbers.new x ≡ pushed (bytes_eq id.now x) number (numbers_in numbers.old x)) }
+        → numbers_in numbers.new x ≡ numbers_with (bytes_eq id.now x) number
+        (numbers_in numbers.old x)) }
 {
     let mut known = take_numbers(alloc, numbers, id);
     known.push(number)?;
@@ -96,7 +97,7 @@ fn push_under<'a>(
 ) -> Result<(), AllocError>
     ensures { OnOk result ((x : List ℕ)
         → numbers_in numbers.new x
-        ≡ pushed (mem x (map (λ s. s.now) ids.now)) number (numbers_in numbers.old x)) }
+        ≡ numbers_with (mem x (map (λ s. s.now) ids.now)) number (numbers_in numbers.old x)) }
 {
     let mut seen = BTreeSet::new(alloc);
     for id in ids {
@@ -130,7 +131,7 @@ fn push_spawn<'a>(
 ) -> Result<(), AllocError>
     ensures { OnOk result ((x : List ℕ)
         → numbers_in numbers.new x
-        ≡ pushed (marking.copies x spawn.now) spawn.now.id (numbers_in numbers.old x)) }
+        ≡ numbers_with (marking.copies x spawn.now) spawn.now.id (numbers_in numbers.old x)) }
 {
     let ids = copied_ids(alloc, spawn)?;
     push_under(alloc, numbers, ids.as_slice(), spawn.id)

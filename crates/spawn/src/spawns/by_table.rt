@@ -33,7 +33,7 @@ pub fn spawn_by_table(
     // By `ticket`, `records`, `table`, `id`, `part`, `refused`, `memory`, `ticket_stays`,
     // `records_stay`.
     ensures ticket { OnOk result (ticket.new
-        ≡ spawning.spawned ticket.old
+        ≡ spawning.job_after_spawn ticket.old
         (spawning.new_record ticket.old.rows number node worker rw at)) }
     ensures records { OnOk result (records.new.items
         ≡ records.old.items ++ spawning.new_record ticket.old.rows number node worker rw at ∷ []) }

@@ -14,8 +14,8 @@ ghost use Rattle.spawn.specs.Spawning as spawning;
 
 use crate::claims::links_outside::is_linked_outside;
 use crate::records::spawn_rec::SpawnRec;
+use crate::tables::holder_source::HolderSource;
 use crate::tables::holders::Holders;
-use crate::tables::known::Known;
 use ticket_tree::{At, Id, Refusal, Rows, SpawnId, Ticket};
 
 /// The rows of a node that stands below another and of those below it, or `UnknownNode`, then
@@ -82,7 +82,7 @@ fn check_held(
         (λ _. spawning.not_held (places ticket.now.rows) records.now node.now rw.now ≡ None)
         (λ e. spawning.not_held (places ticket.now.rows) records.now node.now rw.now ≡ Some e) }
 {
-    let known = Known {
+    let known = HolderSource {
         ticket,
         records,
         holders,

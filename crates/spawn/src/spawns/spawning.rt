@@ -3,7 +3,7 @@
 ghost use Rattle.std.specs.Prelude.{◌≡◌, ◌-◌, ◌++◌, ◌∷◌, [], true, length, map, slice_get, Some};
 ghost use Rattle.std.specs.Prelude.{None, is_some, IfSome, IfNone, IfOk, IfErr, OnOk, OnErr};
 ghost use Rattle.std.specs.Option.{option_map};
-ghost use Rattle.ticket_rows.specs.OneRow.{appended};
+ghost use Rattle.ticket_rows.specs.OneRow.{rows_with_audit};
 ghost use Rattle.ticket_rows.specs.Place.{node_places, up};
 ghost use Rattle.ticket_rows.specs.Ticket.{IsValid, has_node};
 ghost use Rattle.spawn.specs.Holdings.{IsFree, IsGiven, IsSame, claims};
@@ -101,7 +101,7 @@ fn tell(alloc: Global, ticket: &mut Ticket, spawn: &SpawnRec, parent: &Id) -> Re
     requires known { has_node ticket.old.rows spawn.now.node ≡ true }
     requires parent { has_node ticket.old.rows parent.now ≡ true }
     ensures ok { OnOk result (ticket.new ≡ record ticket.old {
-      rows = appended parent.now
+      rows = rows_with_audit parent.now
           (spawning.spawned_audit ticket.old.rows spawn.now) ticket.old.rows;
     }) }
     ensures err { OnErr result (ticket.new ≡ ticket.old) }
@@ -118,7 +118,7 @@ fn send_out(alloc: Global, ticket: &mut Ticket, spawn: &SpawnRec) -> Result<Part
     requires good { IsGood ticket.old.rows spawn.now }
     requires known { has_node ticket.old.rows spawn.now.node ≡ true }
     requires parent { is_some (up (node_places ticket.old.rows) spawn.now.node) ≡ true }
-    ensures ticket { OnOk result (ticket.new ≡ spawning.spawned ticket.old spawn.now) }
+    ensures ticket { OnOk result (ticket.new ≡ spawning.job_after_spawn ticket.old spawn.now) }
     ensures part { IfOk result (λ p. p ≡ parts.part_for ticket.old spawn.now) }
     ensures err { OnErr result (ticket.new ≡ ticket.old) }
     ensures memory { IfErr result (λ e. e ≡ Refusal.Memory) }
@@ -142,7 +142,7 @@ fn hold(
     requires known { has_node ticket.old.rows spawn.now.node ≡ true }
     requires parent { is_some (up (node_places ticket.old.rows) spawn.now.node) ≡ true }
     requires free { IsFree (claims ticket.old.rows spawn.now) holders.old }
-    ensures ticket { OnOk result (ticket.new ≡ spawning.spawned ticket.old spawn.now) }
+    ensures ticket { OnOk result (ticket.new ≡ spawning.job_after_spawn ticket.old spawn.now) }
     ensures part { IfOk result (λ p. p ≡ parts.part_for ticket.old spawn.now) }
     ensures held { OnOk result (IsGiven (claims ticket.old.rows spawn.now) (Some spawn.now.id)
         holders.old holders.new) }
@@ -177,7 +177,7 @@ fn enter(
     requires parent { is_some (up (node_places ticket.old.rows) node) ≡ true }
     requires free { IsFree (claims ticket.old.rows
         (spawning.new_record ticket.old.rows id node worker rw.now at)) holders.old }
-    ensures ticket { OnOk result (ticket.new ≡ spawning.spawned ticket.old
+    ensures ticket { OnOk result (ticket.new ≡ spawning.job_after_spawn ticket.old
         (spawning.new_record ticket.old.rows id node worker rw.now at)) }
     ensures held { OnOk result (IsGiven (claims ticket.old.rows
         (spawning.new_record ticket.old.rows id node worker rw.now at)) (Some id)
@@ -220,7 +220,7 @@ pub(crate) fn spawn_free(
     requires free { IsFree (claims ticket.old.rows
         (spawning.new_record ticket.old.rows number node worker rw at)) holders.old }
     ensures ticket { OnOk result (ticket.new
-        ≡ spawning.spawned ticket.old
+        ≡ spawning.job_after_spawn ticket.old
         (spawning.new_record ticket.old.rows number node worker rw at)) }
     ensures records { OnOk result (records.new.items
         ≡ records.old.items ++ spawning.new_record ticket.old.rows number node worker rw at ∷ []) }
@@ -273,7 +273,7 @@ pub fn spawn(
     // nothing else changes; else nothing does.
     // By `ticket`, `records`, `id`, `ticket_stays`, `records_stay`.
     ensures ticket { OnOk result (ticket.new
-        ≡ spawning.spawned ticket.old
+        ≡ spawning.job_after_spawn ticket.old
         (spawning.new_record ticket.old.rows number node worker rw at)) }
     ensures records { OnOk result (records.new.items
         ≡ records.old.items ++ spawning.new_record ticket.old.rows number node worker rw at ∷ []) }

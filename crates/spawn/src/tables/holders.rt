@@ -10,7 +10,7 @@ ghost use Rattle.ticket_items.specs.declared.node_row.NodeRow.{NodeRow};
 ghost use Rattle.ticket_rows.specs.Place.{places};
 ghost use Rattle.ticket_rows.specs.Ticket.{IsValid, ids};
 ghost use Rattle.spawn.specs.Holdings.{IsFree, IsGiven, IsSame, IsTable, OthersStay};
-ghost use Rattle.spawn.specs.Holdings.{claims, held_by};
+ghost use Rattle.spawn.specs.Holdings.{claims, holding_spawn};
 ghost use Rattle.spawn.specs.Stored as stored;
 ghost use Rattle.spawn.specs.Table as table;
 ghost use Rattle.spawn.specs.declared.records.spawn_rec.SpawnRec.{SpawnRec};
@@ -80,7 +80,7 @@ impl Holders {
 
     /// The spawn that holds an id. `None` where none does.
     pub fn get(&self, id: &Id) -> Option<SpawnId>
-        ensures { result ≡ held_by self.now id.now }
+        ensures { result ≡ holding_spawn self.now id.now }
     {
         self.spawns.get(id.as_str()).copied()
     }
@@ -163,7 +163,7 @@ impl Holders {
 
     /// Whether a spawn holds one of these ids.
     fn has_any(&self, ids: &[&Id]) -> bool
-        ensures { result ≡ list_any (λ x. is_some (held_by self.now x.now)) ids.now }
+        ensures { result ≡ list_any (λ x. is_some (holding_spawn self.now x.now)) ids.now }
     {
         ids.iter().any(|id| self.get(id).is_some())
     }

@@ -81,7 +81,7 @@ fn before_holder(ticket: &Ticket, records: &[SpawnRec], node: &Id, id: &Id) -> u
 }
 
 /// The first spawn that holds what stands under this id at this node.
-pub fn holding<'a>(
+pub fn holding_record<'a>(
     ticket: &Ticket,
     records: &'a [SpawnRec],
     node: &Id,

@@ -8,7 +8,7 @@ ghost use Rattle.spawn.specs.Table as table;
 
 use crate::records::spawn_rec::SpawnRec;
 use crate::tables::holder::Holder;
-use crate::tables::holding::holding;
+use crate::tables::holding::holding_record;
 use ticket_tree::{Id, Ticket};
 
 /// The node that an id names, or in whose pool the resource is that it names.
@@ -36,7 +36,7 @@ pub fn holder_of(ticket: &Ticket, records: &[SpawnRec], id: &Id) -> Option<Holde
     ensures { result ≡ table.holder_of ticket.now.rows records.now id.now }
 {
     let node = stand_of(ticket, id)?;
-    match holding(ticket, records, node, id) {
+    match holding_record(ticket, records, node, id) {
         None => Some(Holder::Master),
         Some(spawn) => Some(Holder::Spawn(spawn.id)),
     }

@@ -18,7 +18,7 @@ pub fn append(rows: &mut IndexedRows, node: &Id, audit: Audit) -> Result<(), Ref
     // Proved: An audit goes last at its node, or is refused for want of that node, and valid rows
     // stay valid.
     // By `ok`, `err`, `refused`, `memory`, `valid`.
-    ensures ok { OnOk result (rows.new ≡ one.appended node.now audit rows.old) }
+    ensures ok { OnOk result (rows.new ≡ one.rows_with_audit node.now audit rows.old) }
     ensures err { OnErr result (rows.new ≡ rows.old) }
     ensures refused { IfSome (node_refusal node.now rows.old) (λ e. result ≡ Err e) }
     ensures memory { IfNone (node_refusal node.now rows.old)

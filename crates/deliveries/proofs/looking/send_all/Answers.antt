@@ -3,7 +3,7 @@ use Rattle.std.proofs.Math.Seq.{take-suc}
 use Rattle.std.specs.Option.{unwrap_or}
 use Rattle.deliveries.proofs.Looks.{IsLooked, IsSent, kept-on, looked-more, put-kept, put-sent}
 use Rattle.deliveries.specs.Ledger.{is_waiting, line_for}
-use Rattle.deliveries.specs.Outbox.{Told, progress_in}
+use Rattle.deliveries.specs.Outbox.{SpawnDestinations, progress_in}
 use Rattle.deliveries.specs.Sending.{IsPut, thing_of}
 use Rattle.deliveries.specs.declared.progress.Progress.TheVariants.{Waiting}
 use Rattle.deliveries.proofs.looking.send_all.Goals as goal
@@ -12,7 +12,7 @@ on-err : {T E P : Type 0} (r : Result T E) → P → OnErr r P
 on-err (Ok x) p = tt
 on-err (Err e) p = p
 
-front-grows : (out : Told) (i : ℕ) (o : ℕ × ℕ) → i < length out → o ≡ get_or out i o → take (i + 1) out ≡ take i out ++ o ∷ []
+front-grows : (out : SpawnDestinations) (i : ℕ) (o : ℕ × ℕ) → i < length out → o ≡ get_or out i o → take (i + 1) out ≡ take i out ++ o ∷ []
 front-grows out i o within is =
     let next : i + 1 ≡ suc i = omega arith in
     ap (λ n. take n out) next ∙ take-suc out i o within ∙ ap (λ x. take i out ++ x ∷ []) (sym is)

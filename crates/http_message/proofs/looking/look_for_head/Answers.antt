@@ -1,6 +1,6 @@
 use Rattle.std.proofs.Common.{ℕ, ◌≤◌, List, length, take, subst, sym, arith, ⊎_elim, length-take}
 use Rattle.http_message.specs.Head.{Head, StartsWith, IfHead, IsToldOf, IsBounded}
-use Rattle.http_message.specs.declared.told.Told.{Told}
+use Rattle.http_message.specs.declared.head_says.HeadFacts.{HeadFacts}
 use Rattle.http_message.proofs.Heads.{few_taken, none_in_few, none_after_few, none_after_many, none_at_all, told_in_front}
 use Rattle.http_message.proofs.looking.look_for_head.Goals as goal
 
@@ -22,7 +22,7 @@ returns-then-bytes-lt-MAX_HEAD_BYTES-clause-never c is more head begins =
     none_after_few c.args.kind c.args.bytes.now c.if-bytes-lt-MAX_HEAD_BYTES.true
     (λ m h s. c.look_in.ensures.never is m h s) more head begins
 
-bounded_in : (most m : ℕ) (bytes : List ℕ) (told : Told) → m ≤ length bytes
+bounded_in : (most m : ℕ) (bytes : List ℕ) (told : HeadFacts) → m ≤ length bytes
     → IsBounded most (length (take m bytes)) told → IsBounded most (length bytes) told
 bounded_in most m bytes told long bounded = record {
   size = omega (arith, bounded.size, length-take {A = ℕ});

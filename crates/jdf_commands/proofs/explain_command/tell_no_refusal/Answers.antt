@@ -1,4 +1,4 @@
 use Rattle.jdf_commands.proofs.explain_command.tell_no_refusal.Goals as goal
 
-pub returns-clause-told : goal.returns-clause-told
-returns-clause-told g c = c.tell_text.ensures
+pub returns-clause-errors : goal.returns-clause-errors
+returns-clause-errors g c = c.tell_text.ensures

@@ -6,5 +6,5 @@ use Rattle.jdf_loop.proofs.command.run_over.Goals as goal
 
 pub returns-in-Ok : goal.returns-in-Ok
 returns-in-Ok g c =
-    subst (λ (s : State). IfOk c.written_after-written.result (λ output. IsRunFrom s c.args.script.events output.text.items output.refused)) c.in-Ok.ensures.is
-    (subst (λ (events : List Event). IfOk c.written_after-written.result (λ output. IsRunFrom c.in-Ok.shop events output.text.items output.refused)) c.into_vec.ensures c.written_after-written.ensures)
+    subst (λ (s : State). IfOk c.run_output-written.result (λ output. IsRunFrom s c.args.script.events output.text.items output.refused)) c.in-Ok.ensures.is
+    (subst (λ (events : List Event). IfOk c.run_output-written.result (λ output. IsRunFrom c.in-Ok.shop events output.text.items output.refused)) c.into_vec.ensures c.run_output-written.ensures)

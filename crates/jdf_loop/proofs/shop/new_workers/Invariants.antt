@@ -7,5 +7,5 @@ use Rattle.jdf_loop.proofs.shop.new_workers.Given as goal
 -- the workers of the names so far, each beside its keeper
 abbrev pub invariant-loop-name : goal.invariant-loop-name
 invariant-loop-name l =
-    (l.workers.items ≡ map (λ name. shops.kept_as shops.worker_state (new_worker l.master name)) (take l.name-index l.names))
+    (l.workers.items ≡ map (λ name. shops.in_memory shops.worker_state (new_worker l.master name)) (take l.name-index l.names))
     × All (shops.IsKeptIn shops.worker_state worker_state_read) l.workers.items

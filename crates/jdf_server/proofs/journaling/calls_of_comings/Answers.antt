@@ -1,6 +1,6 @@
 use Rattle.std.proofs.Common.{◌∙◌, ap, map}
 use Rattle.std.proofs.lemmas.List.{take_all}
-use Rattle.jdf_server.specs.Journaled.{called}
+use Rattle.jdf_server.specs.Journaled.{called_of_coming}
 use Rattle.jdf_server.proofs.JournalLines.{one_call}
 use Rattle.jdf_server.proofs.journaling.calls_of_comings.Goals as goal
 
@@ -11,4 +11,4 @@ loop-coming-preserved g c =
 
 pub returns : goal.returns
 returns g c =
-    λ honest. c.loop-coming.invariant ∙ ap (map called) (take_all c.loop-coming.coming-index c.args.comings.now c.loop-coming-test.false)
+    λ honest. c.loop-coming.invariant ∙ ap (map called_of_coming) (take_all c.loop-coming.coming-index c.args.comings.now c.loop-coming-test.false)

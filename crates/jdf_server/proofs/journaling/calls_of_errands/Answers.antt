@@ -1,7 +1,7 @@
 use Rattle.std.proofs.Common.{◌∙◌, ap, map}
 use Rattle.std.proofs.lemmas.List.{take_all}
 use Rattle.rounds.specs.Line.{coming_in}
-use Rattle.jdf_server.specs.Journaled.{called}
+use Rattle.jdf_server.specs.Journaled.{called_of_coming}
 use Rattle.jdf_server.proofs.JournalLines.{map_of_map, one_call}
 use Rattle.jdf_server.proofs.journaling.calls_of_errands.Goals as goal
 
@@ -12,5 +12,5 @@ loop-errand-preserved g c =
 
 pub returns : goal.returns
 returns g c =
-    λ honest. c.loop-errand.invariant ∙ ap (map (λ e. called (coming_in e))) (take_all c.loop-errand.errand-index c.args.errands.now c.loop-errand-test.false)
-    ∙ map_of_map called coming_in c.args.errands.now
+    λ honest. c.loop-errand.invariant ∙ ap (map (λ e. called_of_coming (coming_in e))) (take_all c.loop-errand.errand-index c.args.errands.now c.loop-errand-test.false)
+    ∙ map_of_map called_of_coming coming_in c.args.errands.now

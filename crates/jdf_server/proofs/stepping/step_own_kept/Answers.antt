@@ -1,5 +1,5 @@
 use Rattle.std.proofs.Common.{◌≡◌, IfOk, map, subst}
-use Rattle.jdf_server.specs.Journaled.{StepsJournaled, called, given_from, kept}
+use Rattle.jdf_server.specs.Journaled.{StepsJournaled, called_of_coming, step_of_call, taken_from_result}
 use Rattle.jdf_server.proofs.stepping.step_own_kept.Goals as goal
 
 pub returns-in-Ok : goal.returns-in-Ok
@@ -7,6 +7,6 @@ returns-in-Ok g c =
     record {
       steps = (c.take_all.new.keep, c.in-Ok.ensures.ok);
       journaled = λ honest.
-          let made = subst (λ all. IfOk c.calls_of_comings-calls.result (λ calls. map kept calls.items ≡ map called all)) c.as_slice.ensures.value (c.calls_of_comings-calls.ensures honest) in
-          subst (λ given. StepsJournaled g.J.Journal.held g.J.Journal.is_missed c.args.at (map called c.args.all.items) (map given_from given) c.in-Ok.saved c.args.journal.now c.journal_given.new.journal) c.as_slice-in-Ok.ensures.value (c.journal_given.ensures honest (map called c.args.all.items) made);
+          let made = subst (λ all. IfOk c.calls_of_comings-calls.result (λ calls. map step_of_call calls.items ≡ map called_of_coming all)) c.as_slice.ensures.value (c.calls_of_comings-calls.ensures honest) in
+          subst (λ given. StepsJournaled g.J.Journal.held g.J.Journal.is_missed c.args.at (map called_of_coming c.args.all.items) (map taken_from_result given) c.in-Ok.saved c.args.journal.now c.journal_own_steps.new.journal) c.as_slice-in-Ok.ensures.value (c.journal_own_steps.ensures honest (map called_of_coming c.args.all.items) made);
     }

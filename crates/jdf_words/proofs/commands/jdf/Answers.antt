@@ -1,11 +1,11 @@
 use Rattle.std.proofs.Common.{[], ◌∷◌, codes, refl}
-use Rattle.jdf_words.specs.Commands.{bare, check_rules, command, edit_rules, jdf, list_rules, new_rules, order_rules, refusal_rule, send_rules, serve_rules, show_rules, take_rules}
+use Rattle.jdf_words.specs.Commands.{check_rules, command, edit_rules, jdf, list_rules, new_rules, order_rules, program_without_commands, refusal_rule, send_rules, serve_rules, show_rules, take_rules}
 use Rattle.jdf_words.proofs.commands.jdf.Goals as goal
 
 pub returns : goal.returns
 unfolding jdf
 returns c =
-    let edit = c.with_command-program.ensures bare (command (codes "edit") edit_rules) refl c.bare.ensures c.edit_command.ensures in
+    let edit = c.with_command-program.ensures program_without_commands (command (codes "edit") edit_rules) refl c.program_without_commands.ensures c.edit_command.ensures in
     let world = c.with_command-program-2.ensures _ (command (codes "world") []) refl edit c.plain_command.ensures in
     let by_loop = c.with_command-program-3.ensures _ (command (codes "loop") []) refl world c.plain_command-2.ensures in
     let new = c.with_command-program-4.ensures _ (command (codes "new") new_rules) refl by_loop c.new_command.ensures in

@@ -1,5 +1,5 @@
 use Rattle.std.proofs.Common.{codes}
-use Rattle.json_items.specs.PartDraft.{part_draft}
+use Rattle.json_items.specs.PartDraft.{part_form}
 use Rattle.json_items.specs.Spawns.{spawn_named}
 use Rattle.json_source.specs.Read.{text_under}
 use Rattle.jmf_message.proofs.Parts.{beside_found, beside_none, part_spawn, text_lent}
@@ -14,4 +14,4 @@ returns-clause-answers g c =
     let d = g.S.Source.content c.args.part.now in
     let spawn = c.in_ok-spawn.spawn in
     let text = text_lent c.text_under.result spawn (text_under (codes "SpawnID") d) c.in_ok-spawn.ensures.value c.text_under.ensures in
-    beside_found c.args.jmf.now (spawn_named spawn.now) (part_draft d) c.in_ok-found.found c.message_with.result (λ p read. part_spawn d spawn.now p text read) c.in_ok-found.ensures c.message_with.ensures.answers
+    beside_found c.args.jmf.now (spawn_named spawn.now) (part_form d) c.in_ok-found.found c.message_with.result (λ p read. part_spawn d spawn.now p text read) c.in_ok-found.ensures c.message_with.ensures.answers

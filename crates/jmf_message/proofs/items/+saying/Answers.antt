@@ -1,7 +1,7 @@
 use Rattle.std.proofs.Common.{◌≡◌, ◌∙◌, ap, subst, sym}
 use Rattle.serde_json.specs.Data.{object}
 use Rattle.jmf_message.specs.Items.{item_data, members_data}
-use Rattle.jmf_message.specs.Said.{says}
+use Rattle.jmf_message.specs.Family.{says}
 use Rattle.jmf_message.proofs.ItemData.{data_object}
 use Rattle.jmf_message.proofs.items.+saying.Goals as goal
 

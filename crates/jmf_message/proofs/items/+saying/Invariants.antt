@@ -1,6 +1,6 @@
 use Rattle.std.proofs.Common.{◌≡◌, drop}
 use Rattle.jmf_message.specs.Items.{members_data}
-use Rattle.jmf_message.specs.Said.{says_all}
+use Rattle.jmf_message.specs.Family.{says_all}
 use Rattle.jmf_message.proofs.items.+saying.Given as goal
 
 -- what is left decides

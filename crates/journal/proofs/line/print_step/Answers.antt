@@ -1,7 +1,7 @@
 use Rattle.std.proofs.Common.{ap, codes, refl}
 use Rattle.serde_json.specs.Data.{string}
 use Rattle.json_text.proofs.PrintedObjects.{more_members, one_member, opened, same_member}
-use Rattle.journal.specs.Line.{spawn_told, who, word_of}
+use Rattle.journal.specs.Line.{spawn_of_reply, who, word_of}
 use Rattle.journal.proofs.Steps.{ended}
 use Rattle.journal.proofs.line.print_step.Goals as goal
 
@@ -15,4 +15,4 @@ returns c =
     let o4 = more_members _ c.print_spawn.new.out o3 c.in_ok-print_spawn.ensures.appended c.in_ok-print_spawn.ensures.again in
     let o5 = one_member _ _ c.print_member.new.out o4 c.in_ok-print_member.ensures.printed c.in_ok-print_member.ensures.again in
     let o6 = one_member (codes "What") (string s.what.now) c.print_text-3.new.out o5 c.in_ok-print_text-3.ensures refl in
-    ended (who s.by) s.controller.now (word_of s.reply) (spawn_told s.reply) s.at s.what.now c.end_object.result c.end_object.new.self o6 c.end_object.ensures
+    ended (who s.by) s.controller.now (word_of s.reply) (spawn_of_reply s.reply) s.at s.what.now c.end_object.result c.end_object.new.self o6 c.end_object.ensures

@@ -1,6 +1,6 @@
 use Rattle.std.proofs.Common.{Some}
-use Rattle.json_items.proofs.ListLemmas.{Fails-each}
-use Rattle.json_items.specs.Resources.{resource_draft, resource_has_names, resource_has_texts}
+use Rattle.json_items.proofs.ListLemmas.{Fails-items_read}
+use Rattle.json_items.specs.Resources.{resource_form, resource_has_names, resource_has_texts}
 use Rattle.json_items.specs.TicketDraft.{resources_of}
 use Rattle.json_reader.proofs.Findings.{FindsAs-failed}
 use Rattle.json_reader.proofs.Pools.{items_more, pool_more}
@@ -10,7 +10,7 @@ use Rattle.json_reader.proofs.found_pool.find_items.Goals as goal
 pub returns-in_err-resource : goal.returns-in_err-resource
 returns-in_err-resource g c =
     FindsAs-failed IsPool c.from_residual-in_err-resource.result c.in_err-resource.field-0.0 _ c.from_residual-in_err-resource.ensures.1
-    (Fails-each g.S.Source.content c.in_err-resource.field-0.0 resource_draft c.args.items.now c.loop-item.item-index c.item-item.result c.loop-item-test.true c.item-item.is c.in_err-resource.ensures)
+    (Fails-items_read g.S.Source.content c.in_err-resource.field-0.0 resource_form c.args.items.now c.loop-item.item-index c.item-item.result c.loop-item-test.true c.item-item.is c.in_err-resource.ensures)
 
 pub loop-item-preserved : goal.loop-item-preserved
 loop-item-preserved g c =

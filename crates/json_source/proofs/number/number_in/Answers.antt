@@ -18,4 +18,4 @@ returns-else-has_minus c =
     let s = c.as_bytes-bytes.result.now in
     let plain : (get_or s 0 0 == 45) ≡ false = sym c.has_minus.ensures.minus ∙ c.if-has_minus.false in
     let read : number_from false (scan s) ≡ number_of s = rw plain in
-    c.unsigned.ensures ∙ ap (number_from false) c.scan-else-has_minus.ensures.parts ∙ read ∙ ap number_of c.as_bytes-bytes.ensures.value
+    c.unsigned_number.ensures ∙ ap (number_from false) c.scan-else-has_minus.ensures.parts ∙ read ∙ ap number_of c.as_bytes-bytes.ensures.value

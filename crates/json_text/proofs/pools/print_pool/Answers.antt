@@ -3,7 +3,7 @@ use Rattle.std.proofs.lemmas.List.{take_all}
 use Rattle.std.specs.List.{list_all}
 use Rattle.json_items.proofs.Tests.{list_all-more}
 use Rattle.json_items.specs.Resources.{raw_data, resource_data, resource_has_names, resource_has_texts}
-use Rattle.json_text.specs.Marked.{marked_pool, shown_of}
+use Rattle.json_text.specs.Marked.{marked_pool, showing_of}
 use Rattle.json_text.specs.Printed.{IsPrinted}
 use Rattle.json_text.proofs.ItemLaws.{made_more, made_all, under_name}
 use Rattle.json_text.proofs.MemberLaws.{on_ok}
@@ -20,7 +20,7 @@ loop-resource-preserved c =
     let i = c.loop-resource.resource-index in
     let r = c.resource-item.result in
     let printed = subst (λ s. IsPrinted (resource_data s r) c.loop-resource.out c.print_marked.new.out) c.in_ok-shown.ensures c.in_ok-print_marked.ensures.printed in (
-      made_more (λ x. record { resource = x; shown = shown_of c.args.marks.now x }) raw_data rs i r c.begin_array.new.self c.loop-resource.out c.print_marked.new.out c.loop-resource-test.true c.resource-item.is c.loop-resource.invariant.0 printed,
+      made_more (λ x. record { resource = x; shown = showing_of c.args.marks.now x }) raw_data rs i r c.begin_array.new.self c.loop-resource.out c.print_marked.new.out c.loop-resource-test.true c.resource-item.is c.loop-resource.invariant.0 printed,
       list_all-more resource_has_names rs i r c.loop-resource-test.true c.resource-item.is c.in_ok-print_marked.ensures.names c.loop-resource.invariant.1,
       list_all-more resource_has_texts rs i r c.loop-resource-test.true c.resource-item.is c.in_ok-print_marked.ensures.texts c.loop-resource.invariant.2,
     )
@@ -31,7 +31,7 @@ returns c =
     let i = c.loop-resource.resource-index in
     let all = take_all i rs c.loop-resource-test.false in
     let pool = marked_pool c.args.marks.now rs in
-    let printed = made_all (λ x. record { resource = x; shown = shown_of c.args.marks.now x }) raw_data rs i c.begin_array.new.self c.loop-resource.out c.loop-resource-test.false c.loop-resource.invariant.0 in
+    let printed = made_all (λ x. record { resource = x; shown = showing_of c.args.marks.now x }) raw_data rs i c.begin_array.new.self c.loop-resource.out c.loop-resource-test.false c.loop-resource.invariant.0 in
     record {
       printed = under_name (codes "ResourcePool") raw_data pool c.end_array.result c.args.out.now c.key.new.self c.begin_array.new.self c.loop-resource.out c.end_array.new.self (record { tokens = c.in_ok-key.ensures.ok; before = c.key.ensures.room.0 }) c.in_ok-begin_array.ensures.ok c.begin_array.ensures.room.0 printed c.end_array.ensures;
       again = on_ok c.end_array.result (list_printed raw_data pool c.end_array.result c.key.new.self c.begin_array.new.self c.loop-resource.out c.end_array.new.self c.in_ok-begin_array.ensures.ok c.begin_array.ensures.room.0 printed c.end_array.ensures) (λ list. list.again);

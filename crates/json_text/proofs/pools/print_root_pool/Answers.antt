@@ -3,7 +3,7 @@ use Rattle.json.specs.Written.{Written}
 use Rattle.ticket_items.specs.declared.resource.Resource.{Resource}
 use Rattle.json_items.specs.Resources.{all_showing, raw_data}
 use Rattle.json_items.specs.Shown.{nothing_shown, shown_rw, shown_ro}
-use Rattle.json_items.specs.declared.resources.shown_form.Shown.{Shown}
+use Rattle.json_items.specs.declared.resources.shown_form.Showing.{Showing}
 use Rattle.json_text.specs.PartWritten.{copies_pool, root_pool}
 use Rattle.json_text.specs.Printed.{AreItemsPrinted}
 use Rattle.json_text.proofs.ItemLaws.{items_joined, showing_as, under_name}
@@ -12,7 +12,7 @@ use Rattle.json_text.proofs.PrintedLists.{list_printed}
 use Rattle.json_text.proofs.pools.print_root_pool.Goals as goal
 
 -- its own resources, then the copies
-all_printed : (spawn : List ℕ) (own changes reads : List Resource) (nothing rw ro : Shown) (xs ys : List Resource) (start first second third : Written) → nothing ≡ nothing_shown → rw ≡ shown_rw spawn → ro ≡ shown_ro spawn → xs ≡ changes → ys ≡ reads
+all_printed : (spawn : List ℕ) (own changes reads : List Resource) (nothing rw ro : Showing) (xs ys : List Resource) (start first second third : Written) → nothing ≡ nothing_shown → rw ≡ shown_rw spawn → ro ≡ shown_ro spawn → xs ≡ changes → ys ≡ reads
     → AreItemsPrinted raw_data (all_showing nothing own) start first → AreItemsPrinted raw_data (all_showing rw xs) first second → AreItemsPrinted raw_data (all_showing ro ys) second third → AreItemsPrinted raw_data (root_pool spawn own changes reads) start third
 all_printed spawn own changes reads nothing rw ro xs ys start first second third bare write read left right p q r =
     items_joined raw_data (all_showing nothing_shown own) (copies_pool spawn changes reads) start first third (showing_as nothing nothing_shown own own start first bare (λ i. own) p)

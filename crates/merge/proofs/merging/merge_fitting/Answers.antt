@@ -1,6 +1,6 @@
 use Rattle.std.proofs.Common.{◌∙◌, sym, ap, subst}
 use Rattle.ticket_rows.specs.Copies.{with_copies}
-use Rattle.ticket_rows.specs.OneRow.{appended}
+use Rattle.ticket_rows.specs.OneRow.{rows_with_audit}
 use Rattle.ticket_rows.specs.Ticket.{Job, IsValid}
 use Rattle.spawn.specs.Spawning.{parent_of}
 use Rattle.merge.proofs.Returning.{part_nodes, part_copies, nodes_told, copies_told, put_told}
@@ -40,6 +40,6 @@ returns-clause-merged c =
     let told = c.in_ok-tell_of_merge.ensures in
     c.put_back.ensures
     ∙ ap (λ (s : Job). record s { rows = with_nodes taken.result.0.items (with_resources taken.result.1.items s.rows) }) told.ok
-    ∙ ap (λ nodes. record t { rows = with_nodes nodes (with_resources taken.result.1.items (appended (parent_of t.rows r.node) (merged_audit r c.args.at) t.rows)) }) taken.ensures.rows
-    ∙ ap (λ pool. record t { rows = with_nodes p.rows (with_resources pool (appended (parent_of t.rows r.node) (merged_audit r c.args.at) t.rows)) }) taken.ensures.copies
+    ∙ ap (λ nodes. record t { rows = with_nodes nodes (with_resources taken.result.1.items (rows_with_audit (parent_of t.rows r.node) (merged_audit r c.args.at) t.rows)) }) taken.ensures.rows
+    ∙ ap (λ pool. record t { rows = with_nodes p.rows (with_resources pool (rows_with_audit (parent_of t.rows r.node) (merged_audit r c.args.at) t.rows)) }) taken.ensures.copies
     ∙ ap (λ rows. record t { rows = rows }) (put_told (parent_of t.rows r.node) (merged_audit r c.args.at) p t.rows (parent_of_out t r p told.valid c.requires.good c.requires.fits))

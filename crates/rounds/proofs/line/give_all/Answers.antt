@@ -13,12 +13,12 @@ push_reserved-requires g c =
     let second = YieldsList-from_vec {s = zip_second c.zip-one-items.result} c.args.given.items gives.0 (gives.1 ∙ c.args.given.ok.0) in
     let road = YieldsList-at c.into_iter-one-iterator.ensures.into_iter_gives (YieldsList-from_zip {s = c.zip-one-items.result} first second) in
     let turn = YieldsList-turn road c.loop-one.yielded c.loop-one.one-iterator c.loop-one.yielded_by c.next.result c.next.new.self (c.in-Some.one, c.in-Some.taken) c.in-Some.is c.next.ensures.steps in
-    room_given (g.A.Told.is_told c.args.now) c.args.waiting.items c.args.given.items c.loop-one.yielded c.loop-one.answered.items _ _ c.loop-one.invariant.given turn.0 c.loop-one.invariant.room c.loop-one.answered.ok.0
+    room_given (g.A.Recipient.is_told c.args.now) c.args.waiting.items c.args.given.items c.loop-one.yielded c.loop-one.answered.items _ _ c.loop-one.invariant.given turn.0 c.loop-one.invariant.room c.loop-one.answered.ok.0
 
 pub loop-one-preserved : goal.loop-one-preserved
 loop-one-preserved g c =
     record {
-      given = given_more (g.A.Told.is_told c.args.now) c.loop-one.yielded c.loop-one.answered.items c.push_reserved.new.self.items c.in-Some.one c.in-Some.taken c.tell.result c.loop-one.invariant.given (subst (λ came. g.A.Told.is_told c.args.now came c.in-Some.one c.tell.result) c.came_of.ensures c.tell.ensures) c.push_reserved.ensures.items;
+      given = given_more (g.A.Recipient.is_told c.args.now) c.loop-one.yielded c.loop-one.answered.items c.push_reserved.new.self.items c.in-Some.one c.in-Some.taken c.tell.result c.loop-one.invariant.given (subst (λ came. g.A.Recipient.is_told c.args.now came c.in-Some.one c.tell.result) c.taken_bytes_of.ensures c.tell.ensures) c.push_reserved.ensures.items;
       room = omega arith;
     }
 
@@ -29,4 +29,4 @@ returns g c =
     let second = YieldsList-from_vec {s = zip_second c.zip-one-items.result} c.args.given.items gives.0 (gives.1 ∙ c.args.given.ok.0) in
     let road = YieldsList-at c.into_iter-one-iterator.ensures.into_iter_gives (YieldsList-from_zip {s = c.zip-one-items.result} first second) in
     let all = YieldsList-end road c.loop-one.yielded c.loop-one.one-iterator c.loop-one.yielded_by c.next.result c.next.new.self c.in-None.is c.next.ensures.steps in
-    given_all (g.A.Told.is_told c.args.now) c.args.waiting.items c.args.given.items c.loop-one.yielded c.loop-one.answered.items c.loop-one.invariant.given (sym (map-id c.loop-one.yielded) ∙ all.0) c.requires.each
+    given_all (g.A.Recipient.is_told c.args.now) c.args.waiting.items c.args.given.items c.loop-one.yielded c.loop-one.answered.items c.loop-one.invariant.given (sym (map-id c.loop-one.yielded) ∙ all.0) c.requires.each

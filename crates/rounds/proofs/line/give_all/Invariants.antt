@@ -6,6 +6,6 @@ use Rattle.rounds.proofs.line.give_all.Given as goal
 abbrev pub invariant-loop-one : goal.invariant-loop-one
 invariant-loop-one g l =
     record {
-      given : AreGiven (g.A.Told.is_told l.now) l.yielded l.answered.items;
+      given : AreGiven (g.A.Recipient.is_told l.now) l.yielded l.answered.items;
       room : length l.fn.waiting.items ≤ vec_capacity l.answered;
     }

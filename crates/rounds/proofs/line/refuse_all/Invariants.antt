@@ -6,6 +6,6 @@ use Rattle.rounds.proofs.line.refuse_all.Given as goal
 abbrev pub invariant-loop-one : goal.invariant-loop-one
 invariant-loop-one g l =
     record {
-      refused : AreToldOf (g.A.Told.is_told l.now) l.fn.refused l.yielded l.answered.items;
+      refused : AreToldOf (g.A.Recipient.is_told l.now) l.fn.refused l.yielded l.answered.items;
       room : length l.fn.waiting.items ≤ vec_capacity l.answered;
     }

@@ -10,4 +10,4 @@ returns c =
     let printed = c.in_ok-print_list.ensures in
     let tokens : c.print_list.new.out.tokens ≡ data_tokens d = printed.appended.tokens ∙ ap (λ ts. ts ++ data_tokens d) c.new-out.ensures.tokens in
     let before : c.print_list.new.out.before ≡ [] = printed.appended.before ∙ c.new-out.ensures.before ∙ c.new.ensures.items in
-    c.in_ok-push.ensures.items ∙ ap (λ b. b ++ 10 ∷ []) (c.finished-text.ensures.text d tokens ∙ ap (λ b. b ++ compact_text d) before)
+    c.in_ok-push.ensures.items ∙ ap (λ b. b ++ 10 ∷ []) (c.written_text-text.ensures.text d tokens ∙ ap (λ b. b ++ compact_text d) before)

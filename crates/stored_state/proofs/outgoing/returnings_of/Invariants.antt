@@ -7,7 +7,7 @@ use Rattle.stored_state.proofs.outgoing.returnings_of.Given as goal
 abbrev pub invariant-loop-entry : goal.invariant-loop-entry
 invariant-loop-entry l =
     record {
-      out : map out.seen l.all.items ≡ filter_map (out.returning_of l.master) (take l.entry-index l.entries);
+      out : map out.sending_seen l.all.items ≡ filter_map (out.returning_of l.master) (take l.entry-index l.entries);
       few : length l.all.items ≤ l.entry-index;
       room : length l.entries ≤ vec_capacity l.all;
     }

@@ -9,12 +9,12 @@ loop-spawned-preserved c =
     let l = c.loop-spawned in
     elim c.match-sending_of.branch [
       | in-Some w ↦ record {
-        out = some_more out.sending_of out.seen c.args.records.now l.spawned-index c.spawned-item.result c.spawned-item.result w.in-Some.sending l.all.items c.match-sending_of.all.items c.loop-spawned-test.true c.spawned-item.is l.invariant.out (ap (option_map out.seen) (sym w.in-Some.is) ∙ c.sending_of.ensures) (ap (λ v. v.items) w.all-is ∙ w.push_reserved.ensures.items);
+        out = some_more out.sending_of out.sending_seen c.args.records.now l.spawned-index c.spawned-item.result c.spawned-item.result w.in-Some.sending l.all.items c.match-sending_of.all.items c.loop-spawned-test.true c.spawned-item.is l.invariant.out (ap (option_map out.sending_seen) (sym w.in-Some.is) ∙ c.sending_of.ensures) (ap (λ v. v.items) w.all-is ∙ w.push_reserved.ensures.items);
         few = search rules;
         room = search rules;
       }
       | in_default w ↦ record {
-        out = none_more out.sending_of out.seen c.args.records.now l.spawned-index c.spawned-item.result c.spawned-item.result c.match-sending_of.all.items c.loop-spawned-test.true c.spawned-item.is (ap (λ v. map out.seen v.items) w.all-is ∙ l.invariant.out) (ap (option_map out.seen) (sym w.in_default.is) ∙ c.sending_of.ensures);
+        out = none_more out.sending_of out.sending_seen c.args.records.now l.spawned-index c.spawned-item.result c.spawned-item.result c.match-sending_of.all.items c.loop-spawned-test.true c.spawned-item.is (ap (λ v. map out.sending_seen v.items) w.all-is ∙ l.invariant.out) (ap (option_map out.sending_seen) (sym w.in_default.is) ∙ c.sending_of.ensures);
         few = search rules;
         room = search rules;
       }

@@ -7,7 +7,7 @@ use Rattle.stored_state.proofs.outgoing.sendings_of.Given as goal
 abbrev pub invariant-loop-spawned : goal.invariant-loop-spawned
 invariant-loop-spawned l =
     record {
-      out : map out.seen l.all.items ≡ filter_map out.sending_of (take l.spawned-index l.records);
+      out : map out.sending_seen l.all.items ≡ filter_map out.sending_of (take l.spawned-index l.records);
       few : length l.all.items ≤ l.spawned-index;
       room : length l.records ≤ vec_capacity l.all;
     }

@@ -15,9 +15,9 @@ use Rattle.worker_core.proofs.Places.{refused_at}
 use Rattle.worker_core.proofs.Refusals.{work_free}
 use Rattle.worker_core.proofs.SpawnIndex.{index_kept, place_inside}
 use Rattle.worker_core.specs.Numbers.{are_distinct_numbers}
-use Rattle.worker_core.specs.Orders.{edited_entry, finished_entry, order_refusal, order_step, ordered, return_of, spawn_of_order, work_refusal}
+use Rattle.worker_core.specs.Orders.{allowed_step, edited_entry, finished_entry, order_refusal, order_step, return_of, spawn_of_order, work_refusal}
 use Rattle.worker_core.specs.SpawnIndex.{IsSpawnIndex}
-use Rattle.worker_core.specs.Worker.{Known, is_of, known, numbers}
+use Rattle.worker_core.specs.Worker.{State, is_of, numbers, state}
 use Rattle.worker_core.specs.declared.end.End.{End}
 use Rattle.worker_core.specs.declared.entry.Entry.{Entry}
 use Rattle.worker_core.specs.declared.order.Order.TheVariants as order
@@ -36,7 +36,7 @@ own reply sent next x y (Ok done) same makes = ap (λ (s : Step Entry Message). 
 own reply sent next x y (Err e) same makes = ap number_of makes.err
 
 -- the worker makes the step with what becomes of its entries
-on_place : (reply : Reply) (sent : Option Message) (w : Known) (later : List Entry) (k : ℕ) (next x y : Entry) (result : Result Done Refusal)
+on_place : (reply : Reply) (sent : Option Message) (w : State) (later : List Entry) (k : ℕ) (next x y : Entry) (result : Result Done Refusal)
     → x ≡ get_or w.entries k x → slice_set w.entries k next ≡ later → Makes (step_to reply sent next) x result y
     → Makes (step_to reply sent (record w { entries = later })) w result (record w { entries = slice_set w.entries k y })
 on_place reply sent w later k next x y (Ok done) is put makes =
@@ -51,23 +51,23 @@ on_place reply sent w later k next x y (Err e) is put makes =
     let stays : slice_set w.entries k y ≡ w.entries = ap (slice_set w.entries k) (makes.err ∙ is) ∙ set-get_or w.entries k x in
     record { ok = tt; err = ap (λ es. record w { entries = es }) stays; refused = tt; memory = makes.memory }
 
-edited_at : (s : ℕ) (e : Edit) (at : ℕ) (w : Known) (k : ℕ) (x y : Entry) (result : Result Done Refusal)
+edited_at : (s : ℕ) (e : Edit) (at : ℕ) (w : State) (k : ℕ) (x y : Entry) (result : Result Done Refusal)
     → are_distinct_numbers (numbers w.entries) ≡ true → position (is_of s) w.entries ≡ Some k → x ≡ get_or w.entries k x
-    → Makes (step_to reply.Edited None (edited_entry e at x)) x result y → Makes (ordered (order.Edit s e) at w) w result (record w { entries = slice_set w.entries k y })
+    → Makes (step_to reply.Edited None (edited_entry e at x)) x result y → Makes (allowed_step (order.Edit s e) at w) w result (record w { entries = slice_set w.entries k y })
 edited_at s e at w k x y result once here is makes =
     on_place reply.Edited None w _ k (edited_entry e at x) x y result is (write_at_number number_of s (edited_entry e at) w.entries k x once here is) makes
 
-finished_at : (s : ℕ) (how : End) (at : ℕ) (w : Known) (k : ℕ) (x y : Entry) (result : Result Done Refusal)
+finished_at : (s : ℕ) (how : End) (at : ℕ) (w : State) (k : ℕ) (x y : Entry) (result : Result Done Refusal)
     → are_distinct_numbers (numbers w.entries) ≡ true → position (is_of s) w.entries ≡ Some k → x ≡ get_or w.entries k x
     → Makes (step_to (reply.Finished s) (return_of w.name w.master (finished_entry how at x)) (finished_entry how at x)) x result y
-    → Makes (ordered (order.Finish s how) at w) w result (record w { entries = slice_set w.entries k y })
+    → Makes (allowed_step (order.Finish s how) at w) w result (record w { entries = slice_set w.entries k y })
 finished_at s how at w k x y result once here is makes =
     rw (found_there number_of s w.entries k x here is)
     (on_place (reply.Finished s) _ w _ k (finished_entry how at x) x y result is (write_at_number number_of s (finished_entry how at) w.entries k x once here is) makes)
 
-resent_at : (s at : ℕ) (w : Known) (k : ℕ) (x : Entry) (result : Result Done Refusal)
+resent_at : (s at : ℕ) (w : State) (k : ℕ) (x : Entry) (result : Result Done Refusal)
     → position (is_of s) w.entries ≡ Some k → x ≡ get_or w.entries k x
-    → Makes (step_to (reply.Sent s) (return_of w.name w.master x) x) x result x → Makes (ordered (order.Resend s) at w) w result (record w { entries = slice_set w.entries k x })
+    → Makes (step_to (reply.Sent s) (return_of w.name w.master x) x) x result x → Makes (allowed_step (order.Resend s) at w) w result (record w { entries = slice_set w.entries k x })
 resent_at s at w k x result here is makes =
     rw (found_there number_of s w.entries k x here is)
     (on_place (reply.Sent s) _ w _ k x x x result is (ap (slice_set w.entries k) is ∙ set-get_or w.entries k x) makes)
@@ -112,10 +112,10 @@ returns-after-order c =
     let is = c.index_mut-entry.ensures.value in
     let once = c.entries.invariant.once in
     let entries = c.entries.inside.list.items in
-    let w = known name master entries in
+    let w = state name master entries in
     let here = place_inside (spawn_of_order o) k entries c.args.entries.now c.entries.view_is c.in-Ok.ensures.place in
-    subst (λ es. Makes (order_step o at (known name master es)) (known name master es) c.match-order.result (known name master c.match-order.entries-inside.list.items)) c.entries.view_is
-    (free_makes (order_refusal o entries) w (ordered o at w) _ _ (free c)
+    subst (λ es. Makes (order_step o at (state name master es)) (state name master es) c.match-order.result (state name master c.match-order.entries-inside.list.items)) c.entries.view_is
+    (free_makes (order_refusal o entries) w (allowed_step o at w) _ _ (free c)
     (elim c.match-order.branch [
       | in-Edit b ↦ rw (b.result-is, b.entries-inside-is, b.in-Edit.is) (edited_at b.in-Edit.field-0 b.in-Edit.edit at w k x b.do_edit.new.entry b.do_edit.result once (rw b.in-Edit.is at here) is b.do_edit.ensures)
       | in-Finish b ↦ rw (b.result-is, b.entries-inside-is, b.in-Finish.is) (finished_at b.in-Finish.spawn b.in-Finish.end at w k x b.do_finish.new.entry b.do_finish.result once (rw b.in-Finish.is at here) is b.do_finish.ensures)

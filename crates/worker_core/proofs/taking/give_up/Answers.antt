@@ -4,20 +4,20 @@ use Rattle.ticket_items.proofs.Places.{none_at_position}
 use Rattle.worker_core.proofs.Closing.{aborted_number}
 use Rattle.worker_core.proofs.GivingUp.{declined_behind, given_up}
 use Rattle.worker_core.proofs.SpawnIndex.{index_kept, place_inside, spawn_stays}
-use Rattle.worker_core.specs.Messages.{aborted, aborted_entry}
-use Rattle.worker_core.specs.Worker.{entry_of, is_of, known}
+use Rattle.worker_core.specs.Messages.{aborted_entry, on_abort}
+use Rattle.worker_core.specs.Worker.{entry_of, is_of, state}
 use Rattle.worker_core.specs.declared.entry.Entry.{Entry}
 use Rattle.worker_core.proofs.taking.give_up.Goals as goal
 
 pub push-requires : goal.push-requires
 push-requires c =
     let entries = c.args.entries.now in
-    ap (λ (e : Entry). entry_of entries e.spawn_id) c.declined.ensures ∙ none_at_position (is_of c.args.spawn) entries (sym c.in-None.ensures)
+    ap (λ (e : Entry). entry_of entries e.spawn_id) c.new_declined.ensures ∙ none_at_position (is_of c.args.spawn) entries (sym c.in-None.ensures)
 
 pub returns-in_ok-push-in-None-clause-ok : goal.returns-in_ok-push-in-None-clause-ok
 returns-in_ok-push-in-None-clause-ok c name master =
     let entries = c.args.entries.now in
-    ap (known name master) (c.in_ok-push-in-None.ensures.ok ∙ ap (λ e. entries ++ e ∷ []) c.declined.ensures) ∙ declined_behind name master c.args.spawn c.args.at entries (sym c.in-None.ensures)
+    ap (state name master) (c.in_ok-push-in-None.ensures.ok ∙ ap (λ e. entries ++ e ∷ []) c.new_declined.ensures) ∙ declined_behind name master c.args.spawn c.args.at entries (sym c.in-None.ensures)
 
 pub invariant_of-entries : goal.invariant_of-entries
 invariant_of-entries c =
@@ -35,7 +35,7 @@ returns-in-Some-clause-ok c name master =
     let entries = c.entries.inside.list.items in
     on_ok_weaker c.abort.result
     (λ made.
-    ap (λ e. known name master (slice_set entries k e)) made
+    ap (λ e. state name master (slice_set entries k e)) made
     ∙ given_up name master s at entries k c.index_mut.result.now c.entries.invariant.once (place_inside s k entries c.args.entries.now c.entries.view_is (sym c.in-Some.ensures)) c.index_mut.ensures.value
-    ∙ ap (λ es. (aborted s at (known name master es)).next) c.entries.view_is)
+    ∙ ap (λ es. (on_abort s at (state name master es)).next) c.entries.view_is)
     c.abort.ensures.ok

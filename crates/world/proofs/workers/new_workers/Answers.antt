@@ -3,7 +3,7 @@ use Rattle.std.proofs.lemmas.List.{take-append-drop, drop_more, map-append, take
 use Rattle.std.specs.Str.{bytes_eq}
 use Rattle.ticket_items.specs.Ids.{mem}
 use Rattle.ticket_items.proofs.Apart.{bytes_eq-same, mem-append, or_true}
-use Rattle.worker_core.specs.Worker.{known}
+use Rattle.worker_core.specs.Worker.{state}
 use Rattle.world.specs.State.{new_worker}
 use Rattle.world.proofs.workers.new_workers.Goals as goal
 
@@ -29,7 +29,7 @@ loop-name-preserved c =
     let master = c.args.master.now in
     let x : List ℕ = c.name-item.result in
     let made : c.in_ok-new.field-0 ≡ new_worker master x =
-    c.in_ok-new.ensures ∙ c.in_ok-worker.ensures.ok ∙ ap (λ n. known n c.in_ok-copy-2.field-0 []) c.in_ok-copy.ensures ∙ ap (λ m. known x m []) c.in_ok-copy-2.ensures in
+    c.in_ok-new.ensures ∙ c.in_ok-worker.ensures.ok ∙ ap (λ n. state n c.in_ok-copy-2.field-0 []) c.in_ok-copy.ensures ∙ ap (λ m. state x m []) c.in_ok-copy-2.ensures in
     let more : map (new_worker master) (take (i + 1) names) ≡ map (new_worker master) (take i names) ++ new_worker master x ∷ [] =
     ap (map (new_worker master)) (take_more names i x c.loop-name-test.true ∙ ap (λ y. take i names ++ y ∷ []) (sym c.name-item.is)) ∙ map-append (new_worker master) (take i names) (x ∷ []) in
     c.in_ok-push.ensures.items ∙ ap (λ ws. ws ++ c.in_ok-new.field-0 ∷ []) c.loop-name.invariant ∙ ap (λ w. map (new_worker master) (take i names) ++ w ∷ []) made ∙ sym more

@@ -3,7 +3,7 @@ use Rattle.std.specs.Option.{option_map}
 use Rattle.ticket_items.specs.Names.{is_name}
 use Rattle.ticket_items.specs.declared.refusal.Refusal.{Refusal}
 use Rattle.json_items.proofs.Mapped.{mapped}
-use Rattle.json_items.specs.Judged.{both_read, first_fault, on_both}
+use Rattle.json_items.specs.Validation.{both_read, first_fault, on_both}
 use Rattle.worker_core.specs.declared.order.Order.{Order}
 use Rattle.controller_form.specs.Orders.WorkerForm.{order_has_names, order_has_texts, worker_order_form}
 use Rattle.world_items.specs.declared.what.What.{What}
@@ -28,6 +28,6 @@ pub returns : goal.returns
 returns g c =
     let name = c.args.name.now in
     let order = worker_order_form (g.S.Source.content c.args.value.now) in
-    mapped _ fault what_fault make (both_read (Some name) order) (option_map (WorkerOrder name) order) c.both-found.result c.map.result (to_one name order) (λ p. refl) (λ p x h. search rules)
-    (c.both-found.ensures is_name (λ _. true) (Some name) order_has_names order_has_texts order c.in_ok-name.ensures c.in_ok-order.ensures)
+    mapped _ fault what_fault make (both_read (Some name) order) (option_map (WorkerOrder name) order) c.zip-found.result c.map.result (to_one name order) (λ p. refl) (λ p x h. search rules)
+    (c.zip-found.ensures is_name (λ _. true) (Some name) order_has_names order_has_texts order c.in_ok-name.ensures c.in_ok-order.ensures)
     c.map.ensures.cases

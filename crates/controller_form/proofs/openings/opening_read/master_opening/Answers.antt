@@ -6,10 +6,10 @@ use Rattle.ticket_items.specs.FirstFault.{first_of, unless}
 use Rattle.ticket_items.specs.Ids.{are_distinct}
 use Rattle.ticket_items.specs.declared.refusal.Refusal.{Refusal}
 use Rattle.ticket_items.specs.declared.refusal.Refusal.TheVariants.{NotProfile, SameName}
-use Rattle.json_items.specs.Judged.{built_of, sound}
-use Rattle.json_source.specs.Read.{◌>>=◌, has_only, provided}
-use Rattle.controller_form.specs.Openings.OpeningForm.{master_draft, master_members, master_read, opened, shop_read, shop_read_fault}
-use Rattle.controller_form.specs.Openings.ShopForm.{shop_draft, shop_fault, shop_has_names, shop_has_texts, shop_of}
+use Rattle.json_items.specs.Validation.{built_value, checked_value}
+use Rattle.json_source.specs.Read.{◌>>=◌, has_only, some_if}
+use Rattle.controller_form.specs.Openings.OpeningForm.{master_form, master_members, master_read, opening_of_shop, shop_read, shop_read_fault}
+use Rattle.controller_form.specs.Openings.ShopForm.{shop_fault, shop_form, shop_has_names, shop_has_texts, shop_of}
 use Rattle.controller_form.specs.declared.openings.opening.Opening.{Opening}
 use Rattle.controller_form.specs.declared.openings.opening.Opening.TheVariants.{Master}
 use Rattle.controller_form.specs.declared.openings.shop.Shop.{Shop}
@@ -25,29 +25,29 @@ passed (Some f) b e = cc
 -- no two names of a shop that is read are one
 named : (d : Data) (shop : Shop) → shop_read d ≡ Ok shop → are_distinct (shop.master ∷ shop.workers) ≡ true
 named d shop read =
-    let is = sound_draft shop_read_fault shop_of (master_draft d) shop read in
+    let is = sound_draft shop_read_fault shop_of (master_form d) shop read in
     ap (λ (x : Shop). are_distinct (x.master ∷ x.workers)) (sym is.same) ∙ passed _ _ (all_pass _ _ _ is.sound).none
 
 -- a value with these members alone is read as the shop in it
-alone : (d : Data) → provided (has_only master_members d) ≡ Some tt → shop_read d ≡ built_of shop_has_names shop_has_texts shop_fault shop_of (shop_draft d)
-alone d only = ap (λ o. option_map_or (λ s. sound (shop_read_fault s) (shop_of s)) (o >>= λ _. shop_draft d) (Err NotProfile)) only
+alone : (d : Data) → some_if (has_only master_members d) ≡ Some tt → shop_read d ≡ built_value shop_has_names shop_has_texts shop_fault shop_of (shop_form d)
+alone d only = ap (λ o. option_map_or (λ s. checked_value (shop_read_fault s) (shop_of s)) (o >>= λ _. shop_form d) (Err NotProfile)) only
 
 abbrev begun : Result Shop Refusal → Result Opening Refusal
-begun = result_map_both opened (λ e. e)
+begun = result_map_both opening_of_shop (λ e. e)
 
 pub returns-in_err-shop : goal.returns-in_err-shop
 returns-in_err-shop g c =
     let d = g.S.Source.content c.args.value.now in
     handed_on c.from_residual-in_err-shop.result c.in_err-shop.field-0.0 (master_read d) c.from_residual-in_err-shop.ensures.1
-    (⊎_elim (λ memory. inl memory) (λ is. inr (ap begun (alone d c.in_ok-only.ensures.read ∙ is))) c.in_err-shop.ensures)
+    (⊎_elim (λ memory. inl memory) (λ is. inr (ap begun (alone d c.in_ok-check_members.ensures.read ∙ is))) c.in_err-shop.ensures)
 
 pub returns-in_err-master : goal.returns-in_err-master
 returns-in_err-master g c =
     let d = g.S.Source.content c.args.value.now in
-    let memory = c.in_err-master.ensures.memory (named d _ (alone d c.in_ok-only.ensures.read ∙ c.in_ok-shop.ensures)) in
+    let memory = c.in_err-master.ensures.memory (named d _ (alone d c.in_ok-check_members.ensures.read ∙ c.in_ok-shop.ensures)) in
     handed_on c.from_residual-in_err-master.result c.in_err-master.field-0.0 (master_read d) c.from_residual-in_err-master.ensures.1 (inl memory)
 
 pub returns : goal.returns
 returns g c =
     let d = g.S.Source.content c.args.value.now in
-    ap begun (alone d c.in_ok-only.ensures.read ∙ c.in_ok-shop.ensures) ∙ ap (λ m. Ok (Master m)) (sym c.in_ok-master.ensures.ok)
+    ap begun (alone d c.in_ok-check_members.ensures.read ∙ c.in_ok-shop.ensures) ∙ ap (λ m. Ok (Master m)) (sym c.in_ok-master.ensures.ok)

@@ -6,10 +6,10 @@ use Rattle.serde_json.specs.Data.{Data}
 use Rattle.serde_json.specs.Find.{as_str, get}
 use Rattle.ticket_items.specs.Names.{is_name}
 use Rattle.ticket_items.specs.declared.refusal.Refusal.{Refusal}
-use Rattle.json_source.specs.Read.{◌>>=◌, has_only, provided}
+use Rattle.json_source.specs.Read.{◌>>=◌, has_only, some_if}
 use Rattle.json_items.proofs.Mapped.{mapped}
 use Rattle.json_items.proofs.Tests.{all_true}
-use Rattle.json_items.specs.Judged.{checked_fault, first_fault, on_both}
+use Rattle.json_items.specs.Validation.{checked_fault, first_fault, on_both}
 use Rattle.json_items.specs.Listed.{list_form}
 use Rattle.json_items.specs.Members.{three_form}
 use Rattle.master_core.specs.declared.order.Order.{Order}
@@ -30,7 +30,7 @@ fault = first_fault (on_both (on_both is_name is_name) (list_all is_name)) (on_b
 abbrev parts : Data → Option Parts
 parts d = three_form (codes "Node") as_str (codes "Worker") as_str (codes "RW") (list_form as_str) d
 
-in_parts : (d : Data) → provided (has_only spawn_members d) ≡ Some tt → spawn_form d ≡ option_map make (parts d)
+in_parts : (d : Data) → some_if (has_only spawn_members d) ≡ Some tt → spawn_form d ≡ option_map make (parts d)
 unfolding spawn_form
 in_parts d passed =
     ap (λ o. o >>= λ _. option_and_then as_str (get (codes "Node") d) >>= λ node. option_and_then as_str (get (codes "Worker") d) >>= λ worker. option_and_then (list_form as_str) (get (codes "RW") d) >>= λ rw. Some (Spawn node worker rw)) passed
@@ -42,4 +42,4 @@ same_fault p = ap (λ b. checked_fault (order_has_names (make p)) b None) (sym (
 pub returns : goal.returns
 returns g c =
     let d = g.S.Source.content c.args.value.now in
-    mapped _ fault (first_fault order_has_names order_has_texts) make (parts d) (spawn_form d) c.in_ok-found.found c.map.result (in_parts d c.in_ok-only.ensures.read) same_fault (λ p x h. search rules) c.in_ok-found.ensures c.map.ensures.cases
+    mapped _ fault (first_fault order_has_names order_has_texts) make (parts d) (spawn_form d) c.in_ok-found.found c.map.result (in_parts d c.in_ok-check_members.ensures.read) same_fault (λ p x h. search rules) c.in_ok-found.ensures c.map.ensures.cases

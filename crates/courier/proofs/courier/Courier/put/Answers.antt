@@ -14,5 +14,5 @@ invariant_of-self-2 c =
     let within : line < length ds = search rules in
     let pushed = c.in_ok-push.ensures.ok ∙ ap (with_item c.args.item) (at-read ds line c.index_mut.result.now within c.index_mut.ensures.value) in
     let begins = c.is_empty-begins.ensures.value ∙ ap (λ d. length d.items == 0) (at-read ds line c.index-3.result.now within c.index-3.ensures) in
-    let due = c.due-due.ensures.value ∙ ap (λ d. d.due) (at-read ds line c.index-2.result.now within c.index-2.ensures) in
+    let due = c.due_time-due.ensures.value ∙ ap (λ d. d.due) (at-read ds line c.index-2.result.now within c.index-2.ensures) in
     rw pushed (IsKept-put ds line c.args.item c.is_empty-begins.result _ _ _ within (subst IsPaced pushed c.in_ok-push.ensures.paced) c.self.invariant begins (ap (λ due. record { due = due; line = line }) due) c.add.ensures)

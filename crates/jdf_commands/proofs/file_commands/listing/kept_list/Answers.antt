@@ -13,8 +13,8 @@ returns-clause-ok g c =
     record {
       controller = controller;
       is_held = subst (IsHeldBy g.K.Keep.is_honest g.K.Keep.held c.args.keep) (sym c.controller.ensures) c.in_ok-snapshot.ensures.controller;
-      listed = ap (λ o. o.text.items) c.bare.ensures.output ∙ c.unrefused-output.ensures.text
+      listed = ap (λ o. o.text.items) c.without_notes.ensures.output ∙ c.output_unrefused-output.ensures.text
           ∙ one_listed asked controller c.push.new.self.first.items c.push.new.self.rest.items c.in_ok-text.field-0.items c.in_ok-text.ensures first rest;
-      accepted = ap (λ o. o.refused) c.bare.ensures.output ∙ c.unrefused-output.ensures.accepted;
-      noted = c.bare.ensures.notes;
+      accepted = ap (λ o. o.refused) c.without_notes.ensures.output ∙ c.output_unrefused-output.ensures.accepted;
+      noted = c.without_notes.ensures.notes;
     }

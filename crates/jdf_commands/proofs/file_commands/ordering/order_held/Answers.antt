@@ -1,11 +1,11 @@
 use Rattle.std.proofs.Common.{◌∙◌, inl, inr}
-use Rattle.stored_state.specs.Opened.{held_in}
+use Rattle.stored_state.specs.Opened.{kept_of}
 use Rattle.jdf_commands.proofs.file_commands.ordering.order_held.Goals as goal
 
 pub returns-in-Ok-clause-ok : goal.returns-in-Ok-clause-ok
 returns-in-Ok-clause-ok g c =
     record {
-      before = held_in c.in_ok-opened.opened;
+      before = kept_of c.in_ok-opened.opened;
       loaded = c.in_ok-opened.ensures.ok;
       gives = c.in-Ok.ensures.ok;
       honest = c.in-Ok.ensures.honest ∙ c.in_ok-opened.ensures.ok.honest;
@@ -14,4 +14,4 @@ returns-in-Ok-clause-ok g c =
 
 pub returns-in-Err-clause-refused : goal.returns-in-Err-clause-refused
 returns-in-Err-clause-refused g c =
-    inr (held_in c.in_ok-opened.opened, c.in_ok-opened.ensures.ok, held_in c.order.new.self, inl (c.in-Err.refused, c.fault_of.ensures, c.in-Err.ensures.refused))
+    inr (kept_of c.in_ok-opened.opened, c.in_ok-opened.ensures.ok, kept_of c.order.new.self, inl (c.in-Err.refused, c.fault_of.ensures, c.in-Err.ensures.refused))

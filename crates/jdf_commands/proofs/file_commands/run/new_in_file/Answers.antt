@@ -1,14 +1,14 @@
 use Rattle.std.proofs.Common.{Bool, IfErr, subst}
 use Rattle.std.proofs.lemmas.Result.{IfErr-weaker}
-use Rattle.streams.specs.Streams.{used}
+use Rattle.streams.specs.Streams.{traffic}
 use Rattle.stored_state.specs.declared.addressee.Addressee.{Addressee}
-use Rattle.jdf_commands.specs.Calls.{made_in, save_fails}
+use Rattle.jdf_commands.specs.Calls.{keep_in_new_file, save_fails}
 use Rattle.jdf_commands.specs.FileCommands.Commands.{BeginsNone}
 use Rattle.jdf_commands.proofs.file_commands.run.new_in_file.Goals as goal
 
 pub returns-clause-refused : goal.returns-clause-refused
 returns-clause-refused g c =
-    let input = used g.I.Read.remaining c.args.reader.now c.new_noted.new.reader in
+    let input = traffic g.I.Read.remaining c.args.reader.now c.new_noted.new.reader in
     let owner = c.in_ok-to.to in
-    IfErr-weaker c.new_noted.result (BeginsNone save_fails c.exists-is_there.result (made_in c.args.file.now) owner input) (λ fault. (is_there : Bool) × (to : Addressee) × BeginsNone save_fails is_there (made_in c.args.file.now) to input fault) (λ fault why. (c.exists-is_there.result, owner, why))
+    IfErr-weaker c.new_noted.result (BeginsNone save_fails c.exists-is_there.result (keep_in_new_file c.args.file.now) owner input) (λ fault. (is_there : Bool) × (to : Addressee) × BeginsNone save_fails is_there (keep_in_new_file c.args.file.now) to input fault) (λ fault why. (c.exists-is_there.result, owner, why))
     (subst (λ keep. IfErr c.new_noted.result (BeginsNone save_fails c.exists-is_there.result keep owner input)) c.create_new-keep.ensures c.new_noted.ensures.refused)

@@ -1,13 +1,13 @@
 use Rattle.std.proofs.Common.{◌∙◌}
-use Rattle.stored_state.specs.Opened.{held_in}
+use Rattle.stored_state.specs.Opened.{kept_of}
 use Rattle.jdf_commands.proofs.file_commands.shown.kept_shown.Goals as goal
 
 pub returns-clause-ok : goal.returns-clause-ok
 returns-clause-ok g c =
     record {
-      opened = held_in c.in_ok-opened.opened;
+      opened = kept_of c.in_ok-opened.opened;
       loaded = c.in_ok-opened.ensures.ok;
-      shown = c.unrefused-output.ensures.text ∙ c.in_ok-text_shown.ensures.ok;
-      accepted = c.unrefused-output.ensures.accepted;
+      shown = c.output_unrefused-output.ensures.text ∙ c.in_ok-text_shown.ensures.ok;
+      accepted = c.output_unrefused-output.ensures.accepted;
       noted = c.in_ok-notes.ensures;
     }

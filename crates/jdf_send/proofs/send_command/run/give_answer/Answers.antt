@@ -1,14 +1,14 @@
 use Rattle.std.proofs.Common.{inr, subst}
 use Rattle.std.specs.Prelude.{MatchResult}
-use Rattle.streams.specs.Streams.{Use, used}
+use Rattle.streams.specs.Streams.{Traffic, traffic}
 use Rattle.jdf_send.specs.SendCommand.{GivesAnswer, IsRefusalIn, IsUntold}
 use Rattle.jdf_send.proofs.Answered.{as_it_is}
 use Rattle.jdf_send.proofs.send_command.run.give_answer.Goals as goal
 
 pub returns : goal.returns
 returns g c =
-    let output : Use = used g.W.Write.contents c.args.writer.now c.give_text-status.new.writer in
-    let told : Use = used g.F.Write.contents c.args.faults.now c.give_text-status.new.faults in
+    let output : Traffic = traffic g.W.Write.contents c.args.writer.now c.give_text-status.new.writer in
+    let told : Traffic = traffic g.F.Write.contents c.args.faults.now c.give_text-status.new.faults in
     inr (
       told.after,
       subst (λ status. GivesAnswer c.args.answer.items output told status) c.if-status-ne0.false c.give_text-status.ensures,

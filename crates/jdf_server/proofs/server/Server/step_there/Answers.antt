@@ -1,6 +1,6 @@
 use Rattle.std.proofs.Common.{◌∙◌, Some, inl, inr, string_bytes, subst, sym}
 use Rattle.std.proofs.lemmas.Result.{on_ok_weaker}
-use Rattle.keepers.specs.SystemFile.{count, held, is_honest, kept_in, load_fails, place, save_fails}
+use Rattle.keepers.specs.SystemFile.{count, file_bytes, is_honest, keep_in_file, load_fails, place, save_fails}
 use Rattle.jdf_server.specs.Clients.{AreGivenBack}
 use Rattle.jdf_server.specs.Steps.{IsStepped, RefusesLate, StepsKept}
 use Rattle.jdf_server.proofs.GivenBack.{on_ok}
@@ -17,7 +17,7 @@ returns-in_ok-keep_saved-in-Answered g c =
       addressed = c.as_addressee-addressee.ensures.owner;
       answered = c.in-Answered.answered.items;
       saved = c.in-Answered.saved;
-      steps = subst (λ bytes. StepsKept is_honest held place count load_fails save_fails (kept_in bytes) c.as_addressee-addressee.result c.args.self.now.clients.now c.args.line.errands.items c.in-Answered.answered.items c.in-Answered.saved) c.as_str-2.ensures.value (subst (λ it. IsStepped c.as_str-2.result.now c.as_addressee-addressee.result c.args.self.now.clients.now c.args.line.errands.items c.take-last.result it) c.in-Answered.is c.in_ok-stepped.ensures.steps);
+      steps = subst (λ bytes. StepsKept is_honest file_bytes place count load_fails save_fails (keep_in_file bytes) c.as_addressee-addressee.result c.args.self.now.clients.now c.args.line.errands.items c.in-Answered.answered.items c.in-Answered.saved) c.as_str-2.ensures.value (subst (λ it. IsStepped c.as_str-2.result.now c.as_addressee-addressee.result c.args.self.now.clients.now c.args.line.errands.items c.take-last.result it) c.in-Answered.is c.in_ok-stepped.ensures.steps);
       back = subst (λ clients. AreGivenBack (Some (string_bytes c.args.path)) c.in-Answered.answered.items c.args.self.now.clients.all clients) (sym stays) back;
     }))
 

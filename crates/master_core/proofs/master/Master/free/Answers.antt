@@ -5,9 +5,9 @@ use Rattle.master_core.proofs.InStep.{free_in_step}
 use Rattle.master_core.proofs.Merging.{free_is, free_there}
 use Rattle.master_core.proofs.Passing.{went}
 use Rattle.master_core.proofs.RecordPlaces.{OutThere, out_read, out_there}
-use Rattle.master_core.specs.Master.{is_spawn_out, known}
-use Rattle.master_core.specs.Messages.{declined}
-use Rattle.merge.specs.Withdrawal.{withdrawn}
+use Rattle.master_core.specs.Master.{is_spawn_out, state}
+use Rattle.master_core.specs.Messages.{on_decline}
+use Rattle.merge.specs.Withdrawal.{job_after_withdrawal}
 use Rattle.spawn.specs.declared.records.spawn_rec.SpawnRec.{SpawnRec}
 use Rattle.master_core.proofs.master.Master.free.Goals as goal
 use Rattle.master_core.proofs.master.Master.free.Goals.{After-index_mut-record}
@@ -33,21 +33,21 @@ withdraw-requires-clause-good c =
 
 pub invariant_of-self-2 : goal.invariant_of-self-2
 invariant_of-self-2 c =
-    let w = known c.self.inside.name c.self.inside.workers c.self.inside.ticket c.self.inside.records.items in
+    let w = state c.self.inside.name c.self.inside.workers c.self.inside.ticket c.self.inside.records.items in
     let here = own (goal.at.invariant_of-self-2 c).After-index_mut-record in
     let ticket = went c.withdraw.result c.or.result _ _ c.or.ensures c.in_ok-or.was c.withdraw.ensures.withdrawn in
     let phase = went c.withdraw.result c.or.result _ _ c.or.ensures c.in_ok-or.was c.withdraw.ensures.phase in
     let given = subst (λ (t : Job). IsGiven (claims t.rows c.withdraw.new.spawn) None c.self.inside.holders c.free.new.self) ticket c.free.ensures.given in
     rw (ticket, phase) (free_in_step w c.self.inside.holders c.free.new.self c.args.spawn c.args.at c.place_of.result c.index_mut-record.result.now c.self.invariant here
-    (subst (λ (r : SpawnRec). IsGiven (claims (withdrawn w.ticket c.index_mut-record.result.now c.args.at).rows r) None c.self.inside.holders c.free.new.self) phase given))
+    (subst (λ (r : SpawnRec). IsGiven (claims (job_after_withdrawal w.ticket c.index_mut-record.result.now c.args.at).rows r) None c.self.inside.holders c.free.new.self) phase given))
 
 pub returns-clause-ok : goal.returns-clause-ok
 returns-clause-ok c =
-    let w = known c.self.inside.name c.self.inside.workers c.self.inside.ticket c.self.inside.records.items in
+    let w = state c.self.inside.name c.self.inside.workers c.self.inside.ticket c.self.inside.records.items in
     let here = own (goal.at.returns-clause-ok c).After-index_mut-record in
     let ticket = went c.withdraw.result c.or.result _ _ c.or.ensures c.in_ok-or.was c.withdraw.ensures.withdrawn in
     let phase = went c.withdraw.result c.or.result _ _ c.or.ensures c.in_ok-or.was c.withdraw.ensures.phase in
     rw (ticket, phase)
     (free_there w c.args.spawn c.args.at c.place_of.result c.index_mut-record.result.now c.self.invariant.kept.numbered here
     ∙ free_is w c.args.spawn c.args.at c.place_of.result c.index_mut-record.result.now here
-    ∙ ap (λ v. (declined c.args.spawn c.args.at v).next) c.self.view_is)
+    ∙ ap (λ v. (on_decline c.args.spawn c.args.at v).next) c.self.view_is)

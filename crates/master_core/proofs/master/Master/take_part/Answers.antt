@@ -11,8 +11,8 @@ use Rattle.master_core.proofs.InStep.{put_in_step}
 use Rattle.master_core.proofs.Merging.{put_is, put_there}
 use Rattle.master_core.proofs.Passing.{failed, went}
 use Rattle.master_core.proofs.RecordPlaces.{OutThere, out_read, out_there}
-use Rattle.master_core.specs.Master.{Known, is_spawn_out, known, record_of}
-use Rattle.master_core.specs.Messages.{returned}
+use Rattle.master_core.specs.Master.{State, is_spawn_out, record_of, state}
+use Rattle.master_core.specs.Messages.{on_return}
 use Rattle.master_core.proofs.master.Master.take_part.Goals as goal
 use Rattle.master_core.proofs.master.Master.take_part.Goals.{After-index_mut-record}
 
@@ -29,7 +29,7 @@ fitting : (c : After-index_mut-record) → Fits c.self.inside.ticket c.index_mut
 fitting c =
     let r = c.index_mut-record.result.now in
     let s = c.args.part.spawn_id in
-    part_fits c.self.inside.ticket r c.args.part (ap (λ (w : Known). is_fit w.ticket r c.args.part) c.self.view_is ∙ c.requires r (ap (λ (w : Known). record_of w.records s) (sym c.self.view_is) ∙ (own c).found) (own c).out)
+    part_fits c.self.inside.ticket r c.args.part (ap (λ (w : State). is_fit w.ticket r c.args.part) c.self.view_is ∙ c.requires r (ap (λ (w : State). record_of w.records s) (sym c.self.view_is) ∙ (own c).found) (own c).out)
 
 pub index_mut-record-requires : goal.index_mut-record-requires
 index_mut-record-requires c =
@@ -57,7 +57,7 @@ invariant_of-self c =
 
 pub invariant_of-self-2 : goal.invariant_of-self-2
 invariant_of-self-2 c =
-    let w = known c.self.inside.name c.self.inside.workers c.self.inside.ticket c.self.inside.records.items in
+    let w = state c.self.inside.name c.self.inside.workers c.self.inside.ticket c.self.inside.records.items in
     let at = (goal.at.invariant_of-self-2 c).After-index_mut-record in
     let ticket = went c.merge_fitting.result c.or.result _ _ c.or.ensures c.in_ok-or.was c.merge_fitting.ensures.merged in
     let phase = went c.merge_fitting.result c.or.result _ _ c.or.ensures c.in_ok-or.was c.merge_fitting.ensures.phase in
@@ -67,11 +67,11 @@ invariant_of-self-2 c =
 
 pub returns-clause-ok : goal.returns-clause-ok
 returns-clause-ok c =
-    let w = known c.self.inside.name c.self.inside.workers c.self.inside.ticket c.self.inside.records.items in
+    let w = state c.self.inside.name c.self.inside.workers c.self.inside.ticket c.self.inside.records.items in
     let here = own (goal.at.returns-clause-ok c).After-index_mut-record in
     let ticket = went c.merge_fitting.result c.or.result _ _ c.or.ensures c.in_ok-or.was c.merge_fitting.ensures.merged in
     let phase = went c.merge_fitting.result c.or.result _ _ c.or.ensures c.in_ok-or.was c.merge_fitting.ensures.phase in
     rw (ticket, phase)
     (put_there w c.args.part c.args.at c.place_of.result c.index_mut-record.result.now c.self.invariant.kept.numbered here
     ∙ put_is w c.args.part c.args.at c.place_of.result c.index_mut-record.result.now here
-    ∙ ap (λ v. (returned c.args.part c.args.at v).next) c.self.view_is)
+    ∙ ap (λ v. (on_return c.args.part c.args.at v).next) c.self.view_is)

@@ -1,5 +1,5 @@
 use Rattle.std.proofs.Common.{◌∙◌, ap, subst, sym}
-use Rattle.rounds.specs.Kept.{IsUnique, kept_for, others}
+use Rattle.rounds.specs.Kept.{IsUnique, controller_of_path, other_paths}
 use Rattle.rounds.proofs.Keeping.{none_left, others_unique}
 use Rattle.rounds.proofs.saved_states.SavedStates.take.Goals as goal
 
@@ -15,18 +15,18 @@ invariant_of-self-2 c =
 
 pub returns-in_err-saved-clause-gone : goal.returns-in_err-saved-clause-gone
 returns-in_err-saved-clause-gone c =
-    ap (λ s. kept_for c.args.path.now s.entries) c.pop.ensures.entries
+    ap (λ s. controller_of_path c.args.path.now s.entries) c.pop.ensures.entries
     ∙ none_left c.args.path.now c.self.inside.of_path.entries c.self.invariant
 
 pub returns-clause-value : goal.returns-clause-value
 returns-clause-value c =
-    c.in_ok-saved.ensures.value ∙ ap (kept_for c.args.path.now) c.self.view_is
+    c.in_ok-saved.ensures.value ∙ ap (controller_of_path c.args.path.now) c.self.view_is
 
 pub returns-clause-others : goal.returns-clause-others
 returns-clause-others c =
-    ap (λ s. s.entries) c.pop.ensures.entries ∙ ap (others c.args.path.now) c.self.view_is
+    ap (λ s. s.entries) c.pop.ensures.entries ∙ ap (other_paths c.args.path.now) c.self.view_is
 
 pub returns-clause-gone : goal.returns-clause-gone
 returns-clause-gone c =
-    ap (λ s. kept_for c.args.path.now s.entries) c.pop.ensures.entries
+    ap (λ s. controller_of_path c.args.path.now s.entries) c.pop.ensures.entries
     ∙ none_left c.args.path.now c.self.inside.of_path.entries c.self.invariant

@@ -1,7 +1,7 @@
 use Rattle.std.proofs.Common.{◌≡◌, map, take}
-use Rattle.spawn.specs.Marking.{out}
+use Rattle.spawn.specs.Marking.{records_out}
 use Rattle.spawn.proofs.records.out_tables.records_out.Given as goal
 
 -- those of the records so far
 abbrev pub invariant-loop-spawn : goal.invariant-loop-spawn
-invariant-loop-spawn l = map (λ s. s.now) l.out.items ≡ out (take l.spawn-index l.records)
+invariant-loop-spawn l = map (λ s. s.now) l.out.items ≡ records_out (take l.spawn-index l.records)

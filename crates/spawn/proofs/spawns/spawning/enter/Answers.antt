@@ -4,7 +4,7 @@ use Rattle.spawn.proofs.NewRecord.{new_is_good}
 use Rattle.spawn.specs.Holdings.{IsFree, IsGiven, claims}
 use Rattle.spawn.specs.Parts.{part_for}
 use Rattle.spawn.specs.Records.{IsGood}
-use Rattle.spawn.specs.Spawning.{new_record, spawned}
+use Rattle.spawn.specs.Spawning.{job_after_spawn, new_record}
 use Rattle.spawn.specs.declared.records.spawn_rec.SpawnRec.{SpawnRec}
 use Rattle.spawn.proofs.spawns.spawning.enter.Goals as goal
 
@@ -34,7 +34,7 @@ returns-in-Ok-clause-ticket c =
     let t = c.args.ticket.now in
     let s = c.index.result.now in
     let made : s ≡ new_record t.rows c.args.id c.args.node c.args.worker c.args.rw.now c.args.at = c.index.ensures ∙ ap (λ rs. get_or rs c.len-before.result s) c.in_ok-push.ensures.items ∙ get_or_push c.args.records.now.items c.in_ok-new_record.field-0 s c.len-before.result (omega arith) ∙ c.in_ok-new_record.ensures.ok in
-    c.in-Ok.ensures.ticket ∙ ap (spawned t) made
+    c.in-Ok.ensures.ticket ∙ ap (job_after_spawn t) made
 
 pub returns-in-Ok-clause-part : goal.returns-in-Ok-clause-part
 returns-in-Ok-clause-part c =

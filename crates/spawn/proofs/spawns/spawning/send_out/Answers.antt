@@ -2,7 +2,7 @@ use Rattle.std.proofs.Common.{◌≡◌, ◌∙◌, ◌-◌, length, is_some, sl
 use Rattle.std.specs.Option.{option_map, option_map_or}
 use Rattle.std.specs.Result.{result_and}
 use Rattle.ticket_items.specs.declared.ancestor.Ancestor.{Ancestor}
-use Rattle.ticket_rows.specs.OneRow.{appended}
+use Rattle.ticket_rows.specs.OneRow.{rows_with_audit}
 use Rattle.ticket_rows.specs.Ticket.{has_node}
 use Rattle.spawn.proofs.PartKept.{above_apart, last_is, mapped_some}
 use Rattle.spawn.specs.Parts.{ancestors}
@@ -38,4 +38,4 @@ returns-clause-ticket c =
     let last = λ (as' : List Ancestor). slice_get as' (length as' - 1) in
     let above_n : c.ancestors.result.now ≡ ancestors t.rows s.node = c.ancestors.ensures ∙ ap (λ p. p.ancestors) c.in_ok-part.ensures.ok in
     let parent_is : c.parent_in-parent.result.now ≡ parent_of t.rows s.node = ap (λ o. option_map_or (λ u. u) o []) (sym c.parent_in-parent.ensures ∙ ap (λ as'. option_map (λ a. a.node_id) (last as')) above_n ∙ last_is t.rows s.node) in
-    ok_of_both c.tell.result c.in_ok-part.part c.and.result c.and.ensures c.tell.ensures.ok (λ told. told ∙ ap (λ x. record t { rows = appended x (spawned_audit t.rows s) t.rows }) parent_is)
+    ok_of_both c.tell.result c.in_ok-part.part c.and.result c.and.ensures c.tell.ensures.ok (λ told. told ∙ ap (λ x. record t { rows = rows_with_audit x (spawned_audit t.rows s) t.rows }) parent_is)

@@ -10,7 +10,7 @@ use Rattle.ticket_rows.proofs.IndexFollows.{columns_with_node, end_told, node_to
 use Rattle.ticket_rows.proofs.Labels.{slice_get-map}
 use Rattle.ticket_rows.proofs.Parents.{runs_nest}
 use Rattle.ticket_rows.specs.Boxed.{contents}
-use Rattle.ticket_rows.specs.Index.{Finds, lengthened, raised, runs_of, shape_of, shapes_of, spot_under}
+use Rattle.ticket_rows.specs.Index.{Finds, longer_run, runs_of, shape_of, shapes_of, shifted_place, spot_under}
 use Rattle.ticket_rows.specs.Parents.{AreParents, Nest}
 use Rattle.ticket_items.specs.Ids.{mem}
 use Rattle.ticket_rows.specs.Ticket.{depths, ids}
@@ -57,7 +57,7 @@ lengthen-requires-clause-came c =
     let k = c.args.place in
     let r = c.as_ref-row.result.now in
     let at : slice_get rows k ≡ Some r = there_in c.args.rows.now k c.index-rows-place.result r c.requires.within c.index-rows-place.is c.as_ref-row.ensures in
-    omega (arith, get_within index.places.items c.came-parent.result k (c.came-parent.ensures k (node_told rows k r index c.requires.index c.requires.distinct at)), ap length c.reserve.ensures.items)
+    omega (arith, get_within index.places.items c.count_before-parent.result k (c.count_before-parent.ensures k (node_told rows k r index c.requires.index c.requires.distinct at)), ap length c.reserve.ensures.items)
 
 pub insert-requires-2-clause-within : goal.insert-requires-2-clause-within
 insert-requires-2-clause-within c =
@@ -107,26 +107,26 @@ returns-clause-ok c r new at named bare one =
     let k = c.args.place in
     let n = c.index.result.now in
     let end = k + 1 + n in
-    let node = c.came-parent.result in
-    let moved = map (raised end) index.places.items in
+    let node = c.count_before-parent.result in
+    let moved = map (shifted_place end) index.places.items in
     let longer = c.lengthen.new.runs.items in
     let old = c.reserve-2.new.self.items in
     let within : k < length rows = c.requires.within in
     let long : length index.runs.items ≡ length rows = runs_long rows index c.requires.index in
     let run : slice_get index.runs.items k ≡ Some n = slice_get-get_or index.runs.items k n (omega arith) ∙ ap Some (sym c.index.ensures) in
     let seen = c.reserve.ensures.items in
-    let came : slice_get index.places.items node ≡ Some k = c.came-parent.ensures k (node_told rows k c.as_ref-row.result.now index c.requires.index c.requires.distinct (there_in c.args.rows.now k c.index-rows-place.result c.as_ref-row.result.now c.requires.within c.index-rows-place.is c.as_ref-row.ensures)) in
+    let came : slice_get index.places.items node ≡ Some k = c.count_before-parent.ensures k (node_told rows k c.as_ref-row.result.now index c.requires.index c.requires.distinct (there_in c.args.rows.now k c.index-rows-place.result c.as_ref-row.result.now c.requires.within c.index-rows-place.is c.as_ref-row.ensures)) in
     let last : c.len-node.result ≡ length index.places.items = c.len-node.ensures ∙ ap length seen in
-    let places : c.insert-2.new.self.items ≡ moved ++ end ∷ [] = c.insert-2.ensures ∙ ap (λ ps. map (raised end) ps ++ end ∷ []) seen in
+    let places : c.insert-2.new.self.items ≡ moved ++ end ∷ [] = c.insert-2.ensures ∙ ap (λ ps. map (shifted_place end) ps ++ end ∷ []) seen in
     let parents : c.push.new.self.items ≡ index.parents.items ++ node ∷ [] = c.push.ensures.items ∙ ap (λ o. if is_ok o then old ++ node ∷ [] else old) c.unwrap.ensures ∙ ap (λ ps. ps ++ node ∷ []) c.in_ok-reserve-2.ensures.items in
     let runs : c.insert-3.new.self.items ≡ insert longer end 0 = c.insert-3.ensures.items ∙ ap (λ o. if is_ok o then insert longer end 0 else longer) c.unwrap-2.ensures in
     let columns = columns_with_node rows k n node r new index c.insert.new.self moved longer c.requires.index run at bare one (ap (λ i. mem i (ids rows)) named ∙ c.requires.new)
     (λ x. c.in_ok-insert.ensures.updates.0 x ∙ ap (λ b. cond b (Some (OfNode c.len-node.result)) (spot_under index.spots x)) (is_eq-slice_cmp c.args.id x)
     ∙ ap (λ i. cond (bytes_eq i x) (Some (OfNode c.len-node.result)) (spot_under index.spots x)) (sym named)
     ∙ ap (λ m. cond (bytes_eq new.id x) (Some (OfNode m)) (spot_under index.spots x)) last)
-    (slice_get-map (raised end) index.places.items)
-    (length-map index.places.items (raised end))
-    (λ j. c.lengthen.ensures.one k j (ap (λ ps. slice_get ps node) seen ∙ came) ∙ ap (λ ns. option_map (lengthened k j) (slice_get ns j)) c.in_ok-reserve-3.ensures.items)
+    (slice_get-map (shifted_place end) index.places.items)
+    (length-map index.places.items (shifted_place end))
+    (λ j. c.lengthen.ensures.one k j (ap (λ ps. slice_get ps node) seen ∙ came) ∙ ap (λ ns. option_map (longer_run k j) (slice_get ns j)) c.in_ok-reserve-3.ensures.items)
     (c.lengthen.ensures.len ∙ ap length c.in_ok-reserve-3.ensures.items) came in
     let all = insert rows end new in
     record {

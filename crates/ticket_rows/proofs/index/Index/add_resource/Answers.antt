@@ -16,7 +16,7 @@ returns-clause-ok c =
     let b = c.index-rows-place.result in
     let r = c.as_ref-row.result.now in
     let y = c.args.id.now in
-    let h = c.came-home.result in
+    let h = c.count_before-home.result in
     let at : slice_get rows k ≡ Some r = there_in c.args.rows.now k b r c.requires.within c.index-rows-place.is c.as_ref-row.ensures in
-    finds_with_resource rows k h r y index c.add_spot.new.spots c.requires.index at (c.came-home.ensures k (node_told rows k r index c.requires.index c.requires.distinct at)) c.requires.new
+    finds_with_resource rows k h r y index c.add_spot.new.spots c.requires.index at (c.count_before-home.ensures k (node_told rows k r index c.requires.index c.requires.distinct at)) c.requires.new
     (λ x. c.in_ok-add_spot.ensures.added x ∙ ap (λ (xs : List Resource). cond (bytes_eq y x) (Some (InPool h (length xs))) (spot_under index.spots x)) c.as_slice.ensures)

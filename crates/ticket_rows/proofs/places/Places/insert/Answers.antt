@@ -1,7 +1,7 @@
 use Rattle.std.proofs.Common.{◌≡◌, ◌∙◌, ◌++◌, ◌∷◌, ◌≤◌, [], take, drop, insert, is_ok, if◌then◌else◌, length, map, sym, ap, subst, arith}
 use Rattle.std.proofs.lemmas.List.{length-map, take_at}
 use Rattle.ticket_rows.proofs.Labels.{labels_insert, places_insert}
-use Rattle.ticket_rows.specs.Index.{raised}
+use Rattle.ticket_rows.specs.Index.{shifted_place}
 use Rattle.ticket_rows.specs.Labels.{AreLabels, place_in, places_of}
 use Rattle.ticket_rows.proofs.places.Places.insert.Goals as goal
 
@@ -38,4 +38,4 @@ returns c =
     let put : c.insert.new.self.items ≡ insert order k label = c.insert.ensures.items ∙ ap (λ o. if is_ok o then insert set k label else set) c.unwrap-2.ensures ∙ ap (λ ls. insert ls k label) (take_at order _ old.order.len long) in
     let before : places_of labels order ≡ c.args.self.now.items = c.new_label-label.ensures.places ∙ ap (λ ls. places_of ls c.as_mut_slice-2.result.now) c.as_mut_slice.ensures.value ∙ ap (places_of old.labels.items) c.as_mut_slice-2.ensures.value ∙ ap (λ t. t.items) c.self.view_is in
     ap (λ ls. places_of ls c.insert.new.self.items) pushed ∙ ap (places_of (labels ++ label ∷ [])) put
-    ∙ places_insert labels order k label c.new_label-label.ensures.labels c.new_label-label.ensures.fits low ∙ ap (λ ps. map (raised k) ps ++ k ∷ []) before
+    ∙ places_insert labels order k label c.new_label-label.ensures.labels c.new_label-label.ensures.fits low ∙ ap (λ ps. map (shifted_place k) ps ++ k ∷ []) before

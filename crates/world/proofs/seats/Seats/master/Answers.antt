@@ -1,6 +1,6 @@
 use Rattle.std.proofs.Common.{◌≡◌, ◌∙◌, ap, map, subst, sym}
 use Rattle.spawn.specs.Marking.{marks}
-use Rattle.master_core.specs.Master.{Known}
+use Rattle.master_core.specs.Master.{State as MasterState}
 use Rattle.world.proofs.Answered.{if_some}
 use Rattle.world.proofs.MarksShown.{marks_are_shown}
 use Rattle.world.proofs.TicketSeen.{ticket_is_seen}
@@ -13,9 +13,9 @@ use Rattle.world.proofs.seats.Seats.master.Goals as goal
 pub returns-clause-seen : goal.returns-clause-seen
 returns-clause-seen g c =
     let w : State = state (g.M.Seat.kept c.self.inside.master) (map g.W.Seat.kept c.self.inside.workers.items) c.self.inside.messages.messages in
-    if_some _ _ c.controller.result (λ m is. ap (λ (m : Known). m.ticket) is ∙ subst (λ (v : State). w.controllers.master.ticket ≡ ticket_seen (shop_shown v.controllers)) c.self.view_is (sym (ticket_is_seen w c.self.invariant))) c.controller.ensures.kept
+    if_some _ _ c.controller.result (λ m is. ap (λ (m : MasterState). m.ticket) is ∙ subst (λ (v : State). w.controllers.master.ticket ≡ ticket_seen (shop_shown v.controllers)) c.self.view_is (sym (ticket_is_seen w c.self.invariant))) c.controller.ensures.kept
 
 pub returns-clause-marks : goal.returns-clause-marks
 returns-clause-marks g c =
     let w : State = state (g.M.Seat.kept c.self.inside.master) (map g.W.Seat.kept c.self.inside.workers.items) c.self.inside.messages.messages in
-    if_some _ _ c.controller.result (λ m is. ap (λ (m : Known). marks m.ticket.rows m.records) is ∙ subst (λ (v : State). marks w.controllers.master.ticket.rows w.controllers.master.records ≡ shop_marks (shop_shown v.controllers)) c.self.view_is (sym (marks_are_shown w c.self.invariant))) c.controller.ensures.kept
+    if_some _ _ c.controller.result (λ m is. ap (λ (m : MasterState). marks m.ticket.rows m.records) is ∙ subst (λ (v : State). marks w.controllers.master.ticket.rows w.controllers.master.records ≡ shop_marks (shop_shown v.controllers)) c.self.view_is (sym (marks_are_shown w c.self.invariant))) c.controller.ensures.kept

@@ -7,7 +7,7 @@ use Rattle.world.proofs.Seated.{map-get_or, place_seen, same_there}
 use Rattle.world.proofs.WorkerPlaces.{StandsAt, found, none_there, stands_at}
 use Rattle.world.specs.Happening.{is_reached, restart_word}
 use Rattle.world.specs.Settling.{answer_without_step}
-use Rattle.world.specs.State.{IsKept, State, state}
+use Rattle.world.specs.State.{IsConsistent, State, state}
 use Rattle.world_items.specs.declared.word.Word.TheVariants.{Restarted}
 use Rattle.world.proofs.seats.Seats.restart.Goals as goal
 
@@ -46,14 +46,14 @@ invariant_of-self-in_err-restart-in-Some g c =
     let w : State = state (g.M.Seat.kept c.self.inside.master) (map g.W.Seat.kept c.self.inside.workers.items) c.self.inside.messages.messages in
     let same = same_there g.W.Seat.kept c.self.inside.workers.items c.in-Some.place c.index_mut-seat.result.now c.restart-in-Some.new.self c.index_mut-seat.ensures.value c.restart-in-Some.ensures.state in
     let now : state w.controllers.master (map g.W.Seat.kept (set c.self.inside.workers.items c.in-Some.place c.restart-in-Some.new.self)) w.messages ≡ w = ap (λ ws. state w.controllers.master ws w.messages) same in
-    subst IsKept (sym now) c.self.invariant
+    subst IsConsistent (sym now) c.self.invariant
 
 pub invariant_of-self-in-Some : goal.invariant_of-self-in-Some
 invariant_of-self-in-Some g c =
     let w : State = state (g.M.Seat.kept c.self.inside.master) (map g.W.Seat.kept c.self.inside.workers.items) c.self.inside.messages.messages in
     let same = same_there g.W.Seat.kept c.self.inside.workers.items c.in-Some.place c.index_mut-seat.result.now c.restart-in-Some.new.self c.index_mut-seat.ensures.value c.restart-in-Some.ensures.state in
     let now : state w.controllers.master (map g.W.Seat.kept (set c.self.inside.workers.items c.in-Some.place c.restart-in-Some.new.self)) w.messages ≡ w = ap (λ ws. state w.controllers.master ws w.messages) same in
-    subst IsKept (sym now) c.self.invariant
+    subst IsConsistent (sym now) c.self.invariant
 
 pub returns-in_err-restart-in-Some-clause-err : goal.returns-in_err-restart-in-Some-clause-err
 returns-in_err-restart-in-Some-clause-err g c =

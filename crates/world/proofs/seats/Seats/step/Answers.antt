@@ -5,10 +5,10 @@ use Rattle.world.proofs.Replayed.{said_so, shown_so}
 use Rattle.world.proofs.Stopped.{stop_so, stopped_so}
 use Rattle.world.proofs.Seated.{place_seen}
 use Rattle.world.proofs.Unknown.{err_by, unknown_same}
-use Rattle.world.proofs.Unmade.{unplaced}
+use Rattle.world.proofs.NeedsNoMemory.{unplaced}
 use Rattle.ticket_items.specs.declared.refusal.Refusal.TheVariants.{UnknownWorker}
-use Rattle.stored_state.specs.declared.cause.Cause.TheVariants.{Order}
-use Rattle.world.specs.Happening.{is_reached, restart_word, settled, settled_word, step_of}
+use Rattle.stored_state.specs.declared.cause.StepInput.TheVariants.{Order}
+use Rattle.world.specs.Happening.{is_reached, next_answer, next_state, restart_word, step_of}
 use Rattle.world.specs.State.{State, is_named}
 use Rattle.world_items.specs.declared.what.What.TheVariants.{MasterOrder, WorkerOrder, Deliver, Restart}
 use Rattle.world_items.specs.declared.word.Word.TheVariants.{Refused}
@@ -130,10 +130,10 @@ pub returns-in-WorkerOrder-clause-answer : goal.returns-in-WorkerOrder-clause-an
 returns-in-WorkerOrder-clause-answer g c =
     let w : State = c.args.self.now in
     let place = sym (c.place_of-place.ensures ∙ place_seen g.W.Seat.kept c.in-WorkerOrder.name c.as_slice.result.now ∙ ap (position (is_named c.in-WorkerOrder.name)) (ap (map g.W.Seat.kept) c.as_slice.ensures.value ∙ ap (λ (v : State). v.controllers.workers) c.self.view_is)) in
-    subst (λ what. IfOk c.tell_worker.result (λ a. a ≡ settled_word c.args.event.stop w (step_of what c.args.event.at w))) (sym c.in-WorkerOrder.is) (c.tell_worker.ensures.answer c.in-WorkerOrder.name place)
+    subst (λ what. IfOk c.tell_worker.result (λ a. a ≡ next_answer c.args.event.stop w (step_of what c.args.event.at w))) (sym c.in-WorkerOrder.is) (c.tell_worker.ensures.answer c.in-WorkerOrder.name place)
 
 pub returns-in-WorkerOrder-clause-state : goal.returns-in-WorkerOrder-clause-state
 returns-in-WorkerOrder-clause-state g c =
     let w : State = c.args.self.now in
     let place = sym (c.place_of-place.ensures ∙ place_seen g.W.Seat.kept c.in-WorkerOrder.name c.as_slice.result.now ∙ ap (position (is_named c.in-WorkerOrder.name)) (ap (map g.W.Seat.kept) c.as_slice.ensures.value ∙ ap (λ (v : State). v.controllers.workers) c.self.view_is)) in
-    subst (λ what. OnOk c.tell_worker.result (c.tell_worker.new.self ≡ settled c.args.event.stop w (step_of what c.args.event.at w))) (sym c.in-WorkerOrder.is) (c.tell_worker.ensures.state c.in-WorkerOrder.name place)
+    subst (λ what. OnOk c.tell_worker.result (c.tell_worker.new.self ≡ next_state c.args.event.stop w (step_of what c.args.event.at w))) (sym c.in-WorkerOrder.is) (c.tell_worker.ensures.state c.in-WorkerOrder.name place)

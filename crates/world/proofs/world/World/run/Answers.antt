@@ -4,7 +4,7 @@ use Rattle.world.proofs.Answered.{if_ok_by, on_err_by}
 use Rattle.world.proofs.Replayed.{cut_before}
 use Rattle.world.proofs.Unknown.{err_by}
 use Rattle.world.specs.Happening as happening
-use Rattle.world.specs.MergeAudits.{AreToldAbove}
+use Rattle.world.specs.MergeAudits.{MergeAuditsMatch}
 use Rattle.world.specs.Replay as replay
 use Rattle.world.specs.Showing.{shows}
 use Rattle.world.specs.State.{State, opening}
@@ -36,7 +36,7 @@ returns-clause-once c = if_ok_by c.run.result c.in_memory.result _ c.in_memory.e
 pub returns-clause-merges : goal.returns-clause-merges
 returns-clause-merges c =
     if_ok_by c.run.result c.in_memory.result _ c.in_memory.ensures.ok
-    (subst (λ (v : State). IfOk c.run.result (λ answers. (name : List ℕ) (workers : List (List ℕ)) (ticket : Job) → v ≡ opening name workers ticket → AreToldAbove ticket answers.items (shows c.run.new.self).shop)) c.self.view_is c.run.ensures.merges)
+    (subst (λ (v : State). IfOk c.run.result (λ answers. (name : List ℕ) (workers : List (List ℕ)) (ticket : Job) → v ≡ opening name workers ticket → MergeAuditsMatch ticket answers.items (shows c.run.new.self).shop)) c.self.view_is c.run.ensures.merges)
 
 -- ---- where memory runs out
 

@@ -10,11 +10,11 @@ returns g c =
     let tokens : c.print_state.new.out.tokens ≡ data_tokens d = told.printed.appended.tokens ∙ ap (λ ts. ts ++ data_tokens d) c.new-out.ensures.tokens in
     let before : c.print_state.new.out.before ≡ [] = told.printed.appended.before ∙ c.new-out.ensures.before ∙ c.in_ok-with_capacity.ensures.items in
     record {
-      text = c.finished.ensures.text d tokens ∙ ap (λ b. b ++ compact_text d) before;
+      text = c.written_text.ensures.text d tokens ∙ ap (λ b. b ++ compact_text d) before;
       again = record {
         value = d;
-        utf8 = c.finished.ensures.utf8 before;
-        json = c.finished.ensures.again d before tokens told.printed.again told.nests;
+        utf8 = c.written_text.ensures.utf8 before;
+        json = c.written_text.ensures.again d before tokens told.printed.again told.nests;
         form = told.again;
       };
     }

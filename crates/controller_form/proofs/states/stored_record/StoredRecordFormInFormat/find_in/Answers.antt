@@ -12,15 +12,15 @@ use Rattle.ticket_items.specs.declared.resource.Resource.{Resource}
 use Rattle.json_items.proofs.Faults.{five_together}
 use Rattle.json_items.proofs.Mapped.{mapped}
 use Rattle.json_items.proofs.Tests.{all_mapped, all_true}
-use Rattle.json_items.specs.Judged.{both_read, checked_fault, first_fault, on_both}
+use Rattle.json_items.specs.Validation.{both_read, checked_fault, first_fault, on_both}
 use Rattle.json_items.specs.Listed.{list_form}
 use Rattle.json_items.specs.Members.{four_form}
-use Rattle.json_items.specs.Resources.{resource_draft, resource_has_names, resource_has_texts}
+use Rattle.json_items.specs.Resources.{resource_form, resource_has_names, resource_has_texts}
 use Rattle.json_items.specs.Shown.{shows_nothing}
 use Rattle.json_items.specs.Spawns.{spawn_form}
 use Rattle.json_items.specs.TicketDraft.{are_bare, resources_of}
-use Rattle.json_items.specs.Resources.{Marked}
-use Rattle.json_source.specs.Read.{◌>>=◌, has_only, number_under, provided}
+use Rattle.json_items.specs.Resources.{MarkedResource}
+use Rattle.json_source.specs.Read.{◌>>=◌, has_only, number_under, some_if}
 use Rattle.controller_form.specs.States.RecordForm.{phase_under, record_form, record_has_names, record_has_texts, record_members}
 use Rattle.controller_form.specs.States.RecordForm.{spawn_has_names, spawn_has_texts}
 use Rattle.controller_form.specs.declared.states.format.Format.{Format}
@@ -53,14 +53,14 @@ abbrev four : Data → Option Named
 four = four_form (codes "ID") spawn_form (codes "Node") as_str (codes "Worker") as_str (codes "RW") (list_form as_str)
 
 -- one after another
-abbrev in_turn : Data → ℕ → Phase → Option (List Marked) → Option StoredRecord
+abbrev in_turn : Data → ℕ → Phase → Option (List MarkedResource) → Option StoredRecord
 in_turn d at phase pool =
     option_and_then spawn_form (get (codes "ID") d) >>= λ spawn. option_and_then as_str (get (codes "Node") d) >>= λ node. option_and_then as_str (get (codes "Worker") d) >>= λ worker. option_and_then (list_form as_str) (get (codes "RW") d) >>= λ rw. pool >>= λ ro. Some (make at phase (are_bare ro) ((((spawn, node), worker), rw), resources_of ro))
 
-abbrev pool_under : Data → Option (List Marked)
-pool_under d = option_and_then (list_form resource_draft) (get (codes "RO") d)
+abbrev pool_under : Data → Option (List MarkedResource)
+pool_under d = option_and_then (list_form resource_form) (get (codes "RO") d)
 
-in_parts : (format : Format) (d : Data) (at : ℕ) (phase : Phase) (pool : List Marked) → provided (has_only record_members d) ≡ Some tt → number_under (codes "At") d ≡ Some at → phase_under format d ≡ Some phase → pool_under d ≡ Some pool
+in_parts : (format : Format) (d : Data) (at : ℕ) (phase : Phase) (pool : List MarkedResource) → some_if (has_only record_members d) ≡ Some tt → number_under (codes "At") d ≡ Some at → phase_under format d ≡ Some phase → pool_under d ≡ Some pool
     → record_form format d ≡ option_map (make at phase (are_bare pool)) (both_read (four d) (Some (resources_of pool)))
 unfolding record_form
 in_parts format d at phase pool only when far copies =
@@ -81,8 +81,8 @@ returns g c =
     let phase = c.in_ok-phase.phase in
     let pool = c.in_ok-pool.ensures.0 in
     let is = c.in_ok-pool.ensures.2 in
-    let bare = c.is_bare-bare.ensures ∙ ap (list_all shows_nothing) is.shown ∙ all_mapped shows_nothing (λ (m : Marked). m.shown) pool in
-    let parts = in_parts c.args.format.now d at phase pool c.in_ok-only.ensures.read c.in_ok-at.ensures.read c.in_ok-phase.ensures.read c.in_ok-pool.ensures.1 in
-    mapped _ fault (first_fault record_has_names record_has_texts) (make at phase (are_bare pool)) (both_read (four d) (Some (resources_of pool))) (record_form c.args.format.now d) c.both-found.result c.map.result parts (same_fault at phase (are_bare pool)) (λ p x h. let made : x ≡ make at phase c.is_bare-bare.result p = search rules in made ∙ ap (λ b. make at phase b p) bare)
-    (c.both-found.ensures names texts (four d) (list_all resource_has_names) (list_all resource_has_texts) (Some (resources_of pool)) c.in_ok-names.ensures is.resources)
+    let bare = c.is_bare-bare.ensures ∙ ap (list_all shows_nothing) is.shown ∙ all_mapped shows_nothing (λ (m : MarkedResource). m.shown) pool in
+    let parts = in_parts c.args.format.now d at phase pool c.in_ok-check_members.ensures.read c.in_ok-at.ensures.read c.in_ok-phase.ensures.read c.in_ok-pool.ensures.1 in
+    mapped _ fault (first_fault record_has_names record_has_texts) (make at phase (are_bare pool)) (both_read (four d) (Some (resources_of pool))) (record_form c.args.format.now d) c.zip-found.result c.map.result parts (same_fault at phase (are_bare pool)) (λ p x h. let made : x ≡ make at phase c.is_bare-bare.result p = search rules in made ∙ ap (λ b. make at phase b p) bare)
+    (c.zip-found.ensures names texts (four d) (list_all resource_has_names) (list_all resource_has_texts) (Some (resources_of pool)) c.in_ok-names.ensures is.resources)
     c.map.ensures.cases

@@ -1,7 +1,7 @@
 use Rattle.std.proofs.Common.{◌∙◌, ◌≡◌, Bor, List, ℕ, Bool, false, true, Some, ap, sym}
 use Rattle.std.specs.List.{list_all}
 use Rattle.ticket_items.specs.Names.{is_name, is_text}
-use Rattle.json_source.specs.Read.{attrs_draft, lent_pairs}
+use Rattle.json_source.specs.Read.{attrs_form, lent_pairs}
 use Rattle.json_items.proofs.Faults.{bad_names, bad_texts, no_fault}
 use Rattle.json_items.proofs.Tests.{all_mapped}
 use Rattle.json_items.specs.Attributes.{attrs_have_names, attrs_have_texts}
@@ -16,12 +16,12 @@ texts_so pairs lent b at told = all_mapped (λ p. is_text p.1) (λ p. (p.0.now, 
 
 pub returns-then-not-are_names : goal.returns-then-not-are_names
 returns-then-not-are_names g c =
-    bad_names attrs_have_names attrs_have_texts (attrs_draft (g.S.Source.content c.args.value.now)) _ c.in_ok-pairs.ensures.texts
+    bad_names attrs_have_names attrs_have_texts (attrs_form (g.S.Source.content c.args.value.now)) _ c.in_ok-pairs.ensures.texts
     (names_so c.in_ok-pairs.pairs.items c.as_slice.result.now false c.as_slice.ensures.value c.if-not-are_names.ensures)
 
 pub returns-then-not-are_texts : goal.returns-then-not-are_texts
 returns-then-not-are_texts g c =
-    bad_texts attrs_have_names attrs_have_texts (attrs_draft (g.S.Source.content c.args.value.now)) _ c.in_ok-pairs.ensures.texts
+    bad_texts attrs_have_names attrs_have_texts (attrs_form (g.S.Source.content c.args.value.now)) _ c.in_ok-pairs.ensures.texts
     (names_so c.in_ok-pairs.pairs.items c.as_slice.result.now true c.as_slice.ensures.value c.if-not-are_names.ensures)
     (texts_so c.in_ok-pairs.pairs.items c.as_slice-2.result.now false c.as_slice-2.ensures.value c.if-not-are_texts.ensures)
 

@@ -10,7 +10,7 @@ use Rattle.ticket_items.specs.declared.resource.Resource.{Resource}
 use Rattle.json_source.specs.Read.{attrs_of}
 use Rattle.json_items.proofs.Faults.{made_ok, made_err, five_together}
 use Rattle.json_items.specs.Attributes.{attrs_have_names, attrs_have_texts}
-use Rattle.json_items.specs.Judged.{both_read, first_fault, on_both}
+use Rattle.json_items.specs.Validation.{both_read, first_fault, on_both}
 use Rattle.json_items.specs.Members.{four_form}
 use Rattle.json_items.specs.Resources.{own_resource, resource_has_names, resource_has_texts}
 use Rattle.json_items.proofs.resources.resource_form.ResourceForm.find.Goals as goal
@@ -47,12 +47,12 @@ same_fault p = refl
 pub returns : goal.returns
 returns g c =
     let d = g.S.Source.content c.args.value.now in
-    made_ok fault (first_fault resource_has_names resource_has_texts) make (both_read (four d) (attrs d)) (own_resource d) c.both.result c.in-Ok.found _ (in_parts d) same_fault c.in-Ok.is
-    (c.both.ensures names texts (four d) attrs_have_names attrs_have_texts (attrs d) c.in_ok-names.ensures c.in_ok-attrs.ensures)
+    made_ok fault (first_fault resource_has_names resource_has_texts) make (both_read (four d) (attrs d)) (own_resource d) c.zip.result c.in-Ok.found _ (in_parts d) same_fault c.in-Ok.is
+    (c.zip.ensures names texts (four d) attrs_have_names attrs_have_texts (attrs d) c.in_ok-names.ensures c.in_ok-attrs.ensures)
     refl
 
 pub returns-in-Err : goal.returns-in-Err
 returns-in-Err g c =
     let d = g.S.Source.content c.args.value.now in
-    made_err fault (first_fault resource_has_names resource_has_texts) make (both_read (four d) (attrs d)) (own_resource d) c.both.result _ (in_parts d) same_fault c.in-Err.is
-    (c.both.ensures names texts (four d) attrs_have_names attrs_have_texts (attrs d) c.in_ok-names.ensures c.in_ok-attrs.ensures)
+    made_err fault (first_fault resource_has_names resource_has_texts) make (both_read (four d) (attrs d)) (own_resource d) c.zip.result _ (in_parts d) same_fault c.in-Err.is
+    (c.zip.ensures names texts (four d) attrs_have_names attrs_have_texts (attrs d) c.in_ok-names.ensures c.in_ok-attrs.ensures)

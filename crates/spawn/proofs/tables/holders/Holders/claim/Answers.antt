@@ -8,16 +8,16 @@ use Rattle.spawn.proofs.ClaimedIds.{claims_listed, held_is_met, none_both, unmet
 use Rattle.spawn.proofs.Holdings.{given_as}
 use Rattle.spawn.proofs.HoldingsKept.{none_keeps_table, spawn_keeps_table}
 use Rattle.spawn.proofs.Tests.{any_mapped}
-use Rattle.spawn.specs.Holdings.{claimed_ids, claims, held_by}
+use Rattle.spawn.specs.Holdings.{claimed_ids, claims, holding_spawn}
 use Rattle.spawn.specs.Records.{is_out}
 use Rattle.spawn.proofs.tables.holders.Holders.claim.Goals as goal
 use Rattle.spawn.proofs.tables.holders.Holders.claim.Goals.{After-has_any}
 
 -- whether one of the ids of the claim is held
-met : (c : After-has_any) → list_any (λ x. is_some (held_by c.args.self.now x)) (claimed_ids c.args.ticket.now.rows c.args.spawn.now) ≡ c.has_any.result
+met : (c : After-has_any) → list_any (λ x. is_some (holding_spawn c.args.self.now x)) (claimed_ids c.args.ticket.now.rows c.args.spawn.now) ≡ c.has_any.result
 met c =
     let listed = ap (map (λ s. s.now)) c.as_slice.ensures.value ∙ c.in_ok-claimed.ensures.claimed in
-    ap (list_any (λ x. is_some (held_by c.args.self.now x))) (sym listed) ∙ any_mapped (λ x. is_some (held_by c.args.self.now x)) (λ s. s.now) c.as_slice.result.now ∙ sym c.has_any.ensures
+    ap (list_any (λ x. is_some (holding_spawn c.args.self.now x))) (sym listed) ∙ any_mapped (λ x. is_some (holding_spawn c.args.self.now x)) (λ s. s.now) c.as_slice.result.now ∙ sym c.has_any.ensures
 
 pub returns-then-not-is_out-clause-apart : goal.returns-then-not-is_out-clause-apart
 returns-then-not-is_out-clause-apart c recs table apart =
