@@ -217,8 +217,9 @@ fn rows_with(alloc: Global, rows: &[NodeRow], depth: u32) -> Result<Vec<NodeRow>
     Ok(copies)
 }
 
-/// `held NODE ID`: who holds an id of the ticket that is read, once a node of it is spawned to press;
-/// once the spawn gives back what it claims; and by a copy of the holders that was made before.
+/// `held NODE ID`: who holds an id of the ticket that is read, once a node of it is spawned to
+/// press; once the spawn gives back what it claims; and by a copy of the holders that was made
+/// before.
 fn held(alloc: Global, node: &str, id: &str, text: &[u8]) -> Result<Vec<u8>, Refused> {
     let mut ticket = ticket_in(alloc, text)?;
     let mut records = Vec::new(alloc);

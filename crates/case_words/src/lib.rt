@@ -1,6 +1,6 @@
-//! The cases of `cases`, and what comes of those whose first word the program doesn't have: files as
-//! they are, and calls that it never makes by itself. `other.rt`, `calls.rt` and `exchanges.rt` list
-//! these words.
+//! The cases of `cases`, and what comes of those whose first word the program doesn't have: files
+//! as they are, and calls that it never makes by itself. `other.rt`, `calls.rt` and `exchanges.rt`
+//! list these words.
 #![tactic(auto)]
 
 mod calls;

@@ -5,8 +5,8 @@
 //! status on a line of its own. Files are those of the folder where this runs. Lines that are empty
 //! or begin with `#` are written as they are; the latter say what the cases below them are about.
 //!
-//! A few words more call what the program never does by itself; `case_words` lists them. `cuts` before
-//! the words of a case stands for that case with each cut of its input.
+//! A few words more call what the program never does by itself; `case_words` lists them. `cuts`
+//! before the words of a case stands for that case with each cut of its input.
 #![tactic(auto)]
 
 mod answers;

@@ -114,7 +114,8 @@ impl<C: Cell> CellKeep<C> {
 }
 
 impl<C: Cell> Keep for CellKeep<C> {
-    ghost use Rattle.std.specs.Prelude.{◌≡◌, ◌<◌, [], false, true, IfOk, IfSome, IsErrOf, OnErr, OnOk};
+    ghost use Rattle.std.specs.Prelude.{◌≡◌, ◌<◌, [], false, true};
+    ghost use Rattle.std.specs.Prelude.{IfOk, IfSome, IsErrOf, OnErr, OnOk};
     ghost use Rattle.cells.specs.Calls.{IsNot, Sends};
     ghost use Rattle.cells.specs.Chain.{newest};
     ghost use Rattle.cells.specs.Keeping.{has_read, swap_of};

@@ -12,8 +12,8 @@ use std::marker::Model;
 
 /// What is out to all destinations, by their numbers, and the turns of those that wait. One item at
 /// a time is in flight to each. A call costs the logarithm of how many destinations there are, and
-/// of how many items are out to the one that it is for; `hear_from` costs more where it ends a waiting.
-/// Only `add` and `put` need memory.
+/// of how many items are out to the one that it is for; `hear_from` costs more where it ends a
+/// waiting. Only `add` and `put` need memory.
 #[derive(Drop)]
 pub struct Courier {
     lines: Vec<Line>,
@@ -118,8 +118,8 @@ impl Courier {
     }
 
     /// What is to be sent now, and is in flight from then on, until the caller tells how it ended.
-    /// Nothing bounds how long that takes: the caller has its own limit, and calls `fail_flight` then.
-    /// To send all that is due, it is called until there is nothing.
+    /// Nothing bounds how long that takes: the caller has its own limit, and calls `fail_flight`
+    /// then. To send all that is due, it is called until there is nothing.
     pub fn next(&mut self, now: u64) -> Option<Flight>
         // Proved: What is given is the first item of a destination to which nothing is in flight,
         // whose moment has come, and none that waits comes before it; where nothing is given,

@@ -1,4 +1,5 @@
-ghost use Rattle.std.specs.Prelude.{◌≡◌, ◌<◌, ◌++◌, ◌∷◌, [], ℕ, true, false, Some, None, length, All, take};
+ghost use Rattle.std.specs.Prelude.{◌≡◌, ◌<◌, ◌++◌, ◌∷◌, [], ℕ, true};
+ghost use Rattle.std.specs.Prelude.{false, Some, None, length, All, take};
 ghost use Rattle.std.specs.Prelude.{IfOk, IfSome, OnOk, OnErr, is_some, if◌then◌else◌};
 ghost use Rattle.courier.specs.Destination as words;
 ghost use Rattle.courier.specs.Table as table;
@@ -97,7 +98,8 @@ impl Deliveries {
         // told, and nothing else was. Without memory what all have out stays, and a front of them
         // was put.
         // By `looked`, `others`, `put`, `boxes`, `err`.
-        ensures looked { OnOk result ((s : ℕ) → progress_in (ledger.outbox_at self.new.outboxes controller) s
+        ensures looked { OnOk result ((s : ℕ)
+            → progress_in (ledger.outbox_at self.new.outboxes controller) s
             ≡ progress_after_look (ledger.outbox_at self.old.outboxes controller) out.now s) }
         ensures others { OnOk result ((k : ℕ) → (k ≡ controller → ⊥)
             → ledger.outbox_at self.new.outboxes k ≡ ledger.outbox_at self.old.outboxes k) }

@@ -111,7 +111,8 @@ pub(crate) fn send_all(
         ≡ progress_after_look had.now out.now s) }
     ensures held { IfOk result (λ new. (s : ℕ) → IsHeld courier.new routes.new
         (record { controller = controller; spawn = s }) (progress_in new s)) }
-    ensures put { OnOk result (IsPut controller had.now out.now courier.old routes.new courier.new) }
+    ensures put { OnOk result
+        (IsPut controller had.now out.now courier.old routes.new courier.new) }
     ensures err { OnErr result ((k : ℕ)
         × IsPut controller had.now (take k out.now) courier.old routes.new courier.new) }
     ensures routed { IsRouted courier.new routes.new }

@@ -50,8 +50,8 @@ impl Routes {
         }
     }
 
-    /// A thing is among them, behind the others and for this destination, unless it was. Answers its
-    /// number.
+    /// A thing is among them, behind the others and for this destination, unless it was. Answers
+    /// its number.
     pub(crate) fn intern(&mut self, thing: &Thing, line: usize) -> Result<u64, AllocError>
         ensures thing { IfOk result (λ item. thing_at self.new item ≡ Some thing.now) }
         ensures ok { OnOk result (self.new ≡ with_thing thing.now line self.old) }

@@ -1,6 +1,7 @@
 //! What stands under a key.
 
-ghost use Rattle.std.specs.Prelude.{◌≡◌, ◌⊎◌, List, ℕ, Some, Err, IfOk, IfSome, IsNone, Option, OnOk};
+ghost use Rattle.std.specs.Prelude.{◌≡◌, ◌⊎◌, List, ℕ, Some, Err};
+ghost use Rattle.std.specs.Prelude.{IfOk, IfSome, IsNone, Option, OnOk};
 ghost use Rattle.base64.specs.GeneralPurpose.{IsBytes};
 ghost use Rattle.json.specs.Json.{Json};
 ghost use Rattle.json.specs.Value.{value_view};

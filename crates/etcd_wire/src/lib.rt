@@ -1,5 +1,5 @@
-//! The bytes of etcd's JSON gateway: what a value under a key is asked by, what an answer tells, and
-//! the response that it comes in.
+//! The bytes of etcd's JSON gateway: what a value under a key is asked by, what an answer tells,
+//! and the response that it comes in.
 #![tactic(auto)]
 
 // Not proved: that etcd means this by these bytes: it is only tested, by bytes that it was seen to

@@ -35,7 +35,8 @@ pub(crate) fn pair<'a>(
     first: (&'a str, Value<'a>),
     second: (&'a str, Value<'a>),
 ) -> Result<Value<'a>, AllocError>
-    ensures { IfOk result (λ v. value_view v ≡ form.pair first.entry.0.now (value_view first.entry.1)
+    ensures { IfOk result (λ v. value_view v
+        ≡ form.pair first.entry.0.now (value_view first.entry.1)
         second.entry.0.now (value_view second.entry.1)) }
 {
     let mut members = Vec::new(alloc);
@@ -51,8 +52,10 @@ pub(crate) fn triple<'a>(
     second: (&'a str, Value<'a>),
     third: (&'a str, Value<'a>),
 ) -> Result<Value<'a>, AllocError>
-    ensures { IfOk result (λ v. value_view v ≡ form.triple first.entry.0.now (value_view first.entry.1)
-        second.entry.0.now (value_view second.entry.1) third.entry.0.now (value_view third.entry.1)) }
+    ensures { IfOk result (λ v. value_view v
+        ≡ form.triple first.entry.0.now (value_view first.entry.1)
+        second.entry.0.now (value_view second.entry.1)
+        third.entry.0.now (value_view third.entry.1)) }
 {
     let mut members = Vec::new(alloc);
     members.push(first)?;

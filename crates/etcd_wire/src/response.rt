@@ -1,6 +1,7 @@
 //! The response that came of a request.
 
-ghost use Rattle.std.specs.Prelude.{◌≡◌, ◌≢◌, ◌≤◌, ◌<◌, List, ℕ, length, drop, Err, IfOk, IfSome, IsNone};
+ghost use Rattle.std.specs.Prelude.{◌≡◌, ◌≢◌, ◌≤◌, ◌<◌, List, ℕ};
+ghost use Rattle.std.specs.Prelude.{length, drop, Err, IfOk, IfSome, IsNone};
 ghost use Rattle.http1.specs.declared.framing.Framing.{Framing};
 ghost use Rattle.http1.specs.declared.framing.Framing.TheVariants.{UntilClose};
 ghost use Rattle.etcd_wire.specs.Response.{HasBody, HasHead, Responds, limits};

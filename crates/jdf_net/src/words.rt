@@ -7,7 +7,8 @@ ghost use Rattle.streams.specs.declared.fault.Fault.TheVariants.{Input};
 ghost use Rattle.streams.specs.declared.refused.Refused.TheVariants.{Core};
 ghost use Rattle.jdf_words.specs.Calls as calls;
 ghost use Rattle.jdf_send.specs.InputFile.{file_of as file_in};
-ghost use Rattle.jdf_net.specs.Words.{EndsAnswer, EndsAnyCall, EndsFrom, EndsFromFile, EndsJournaled};
+ghost use Rattle.jdf_net.specs.Words.{EndsAnswer, EndsAnyCall, EndsFrom};
+ghost use Rattle.jdf_net.specs.Words.{EndsFromFile, EndsJournaled};
 ghost use Rattle.jdf_net.specs.Words.{EndsWithJournal, EndsWords};
 ghost use Rattle.streams.specs.Streams.{traffic};
 
@@ -230,10 +231,10 @@ fn run_invocation<R: Locks + Net + Clock + Alloc + Clone + Drop, I: Read, W: Wri
 /// Runs what the words of the command line stand for, which come without the program's name: `edit`
 /// where there is none. Answers its exit status. With `--from` the input comes from the file that
 /// is named, and standard input isn't read, but where it is `-`; where the file can't be opened,
-/// nothing is done, and the status is 4. For the version, and for help that is asked for by the word
-/// `help`, nothing is read, `clap`'s text is written, and the status is 0. For other words, and for
-/// those that ask for help by `--help`, nothing is read or written, `clap`'s text is told in
-/// `faults`, and the status is `NO_CALL`.
+/// nothing is done, and the status is 4. For the version, and for help that is asked for by the
+/// word `help`, nothing is read, `clap`'s text is written, and the status is 0. For other words,
+/// and for those that ask for help by `--help`, nothing is read or written, `clap`'s text is told
+/// in `faults`, and the status is `NO_CALL`.
 pub fn run_words<R: Locks + Net + Clock + Alloc + Clone + Drop, I: Read, W: Write, F: Write>(
     rt: &R,
     alloc: Global,

@@ -24,7 +24,8 @@ pub fn file_of(path: Option<&str>) -> Option<&str>
     // Proved: A file is named where a path is there that isn't `-`; one that can't be opened is
     // refused as 55.
     // By `open_input`.
-    ensures { option_map (λ p. p.now) result ≡ input_file.file_of (option_map (λ p. p.now) path.entry) }
+    ensures { option_map (λ p. p.now) result
+        ≡ input_file.file_of (option_map (λ p. p.now) path.entry) }
 {
     let path = path?;
     if is_dash(path) {

@@ -1,5 +1,5 @@
-//! The commands that send to a controller which serves over HTTP: `send`, and `order` with `--send`;
-//! and the file that an input comes from.
+//! The commands that send to a controller which serves over HTTP: `send`, and `order` with
+//! `--send`; and the file that an input comes from.
 #![tactic(auto)]
 
 // Not proved: what bytes a file or a socket gives or takes: neither what a file held or holds, nor

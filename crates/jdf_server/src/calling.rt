@@ -112,7 +112,8 @@ impl<'a, R: Locks + Net + Clock, F: Write + Drop> Server<'a, R, F> {
         }
     }
 
-    /// Something in flight to a destination was accepted, or refused for the refusal of this number.
+    /// Something in flight to a destination was accepted, or refused for the refusal of this
+    /// number.
     pub(crate) fn settle(&mut self, path: &str, parcel: &Parcel, refusal: Option<u16>)
         ensures { self.new.clients.all ≡ self.old.clients.all }
     {

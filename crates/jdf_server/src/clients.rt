@@ -27,8 +27,8 @@ const SMALL: usize = 65_536;
 /// How many bytes are read at once.
 pub(crate) const BUFFER_SIZE: usize = 16_384;
 
-/// The clients that send messages, the listener to which they come, and the log, which has a line of
-/// each.
+/// The clients that send messages, the listener to which they come, and the log, which has a line
+/// of each.
 #[derive(Drop)]
 pub(crate) struct Clients<'a, R, F> {
     pub rt: &'a R,
@@ -271,8 +271,8 @@ impl<'a, R: Clock, F: Write + Drop> Clients<'a, R, F> {
         let _ = self.all.try_remove(key);
     }
 
-    /// Goes on where memory ran out: those who waited for their responses are let go, and all others
-    /// are looked at in the next round.
+    /// Goes on where memory ran out: those who waited for their responses are let go, and all
+    /// others are looked at in the next round.
     pub(crate) fn recover(&mut self) {
         self.has_waiting = true;
         self.looks_at_all = true;

@@ -2,7 +2,8 @@
 
 ghost use Rattle.std.specs.Prelude.{◌≡◌, None, Some, IfOk, OnOk};
 ghost use Rattle.slab.specs.Slab.{Updates};
-ghost use Rattle.jdf_server.specs.Clients.{AreGivenBack, AreLetGo, AreMissed, IsMissed, TellsMissing};
+ghost use Rattle.jdf_server.specs.Clients.{AreGivenBack, AreLetGo, AreMissed};
+ghost use Rattle.jdf_server.specs.Clients.{IsMissed, TellsMissing};
 ghost use Rattle.jdf_server.specs.Lines.{IsParted, is_late};
 ghost use Rattle.jdf_server.specs.Steps.{RefusesLate};
 

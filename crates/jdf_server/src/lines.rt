@@ -3,7 +3,8 @@
 ghost use Rattle.std.specs.Prelude.{◌≡◌, None, Some, IfOk, OnOk, string_bytes};
 ghost use Rattle.slab.specs.Slab.{get};
 ghost use Rattle.jdf_server.specs.Lines.{IsParted, Joins, is_broken, is_gone as is_gone_in};
-ghost use Rattle.jdf_server.specs.Requests.{MaySend, Stands, StandsInLine, StandsOrMisses, StandsWith};
+ghost use Rattle.jdf_server.specs.Requests.{MaySend, Stands, StandsInLine};
+ghost use Rattle.jdf_server.specs.Requests.{StandsOrMisses, StandsWith};
 ghost use Rattle.jdf_server.specs.Requests.{IsKnown, IsTold, StandsWithout};
 ghost use Rattle.jdf_server.specs.Steps.{StepsLineTo, StepsThere, WaitsOn};
 ghost use Rattle.std.specs.Option.{option_map};
@@ -225,8 +226,8 @@ impl<'a, R: Locks + Net + Clock, F: Write + Drop> Server<'a, R, F> {
         )
     }
 
-    /// Whether a sender may send here: where a field of the head tells who sends, it tells this one,
-    /// and where the other controllers are known it is one of them.
+    /// Whether a sender may send here: where a field of the head tells who sends, it tells this
+    /// one, and where the other controllers are known it is one of them.
     fn may_send(&self, sender: &str, head: &[u8]) -> bool
         // Proved: A sender may send just if the field of the head that is to tell who sends tells
         // this one, and the peers' file, where there is one, has a URL for it.
@@ -273,8 +274,8 @@ impl<'a, R: Locks + Net + Clock, F: Write + Drop> Server<'a, R, F> {
         keep_in(self.alloc, &mut self.saved, path, last)
     }
 
-    /// Has those of a line wait on, whose file somebody else has locked, but for those who waited as
-    /// long as they may.
+    /// Has those of a line wait on, whose file somebody else has locked, but for those who waited
+    /// as long as they may.
     fn wait_on(
         &mut self,
         path: String,

@@ -122,7 +122,8 @@ fn order_in_file<R: Locks + Clock, J: Journal>(
     }
 }
 
-/// Those of these orders that may wait on at this moment, and those that waited as long as they may.
+/// Those of these orders that may wait on at this moment, and those that waited as long as they
+/// may.
 fn orders_by_time(
     alloc: Global,
     orders: Vec<Errand<UnixStream>>,

@@ -200,7 +200,8 @@ impl<'a, R: Locks + Net + Clock + Alloc + Clone + Drop, F: Write + Drop> Server<
         }
     }
 
-    /// What is open of all controllers whose files are there, what went out first before the others.
+    /// What is open of all controllers whose files are there, what went out first before the
+    /// others.
     fn open_works(&self) -> Result<Vec<OpenWork<'_>>, AllocError> {
         let mut works = Vec::new(self.alloc);
         for (number, (path, seat)) in self.watched.controllers.iter().enumerate() {

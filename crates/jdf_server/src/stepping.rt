@@ -81,8 +81,8 @@ fn step_kept<R: Clock, K: Keep, J: Journal, S: Drop>(
     }
 }
 
-/// The steps at the controller in the file of this path, if that is one that is addressed, which has
-/// its lock meanwhile.
+/// The steps at the controller in the file of this path, if that is one that is addressed, which
+/// has its lock meanwhile.
 pub(crate) fn step_in_file<R: Locks + Clock, J: Journal>(
     rt: &R,
     alloc: Global,
@@ -169,8 +169,8 @@ pub(crate) enum OwnStepResult {
 }
 
 /// The steps of the controller that a keeper holds, if that is one that is addressed, at a time, by
-/// what comes that no client waits for. Their lines are appended to the journal behind the save, and
-/// then the keeper is let go.
+/// what comes that no client waits for. Their lines are appended to the journal behind the save,
+/// and then the keeper is let go.
 fn step_own_kept<K: Keep, J: Journal>(
     alloc: Global,
     mut keep: K,

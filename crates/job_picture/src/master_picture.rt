@@ -113,7 +113,8 @@ fn title_of(alloc: Global, master: &Master) -> Result<String, AllocError>
 /// Appends a picture of a master's job as SVG, text that a browser shows, at a moment in seconds
 /// since 1970. What is out comes first, a card for each spawn, with its worker, its node, since
 /// when, how long, and the node's Status; then the nodes in ticket order, each with a shape for how
-/// far it is, the spawn that holds it, and its resources. It is 1,920 by 1,080, as `push_wall` says.
+/// far it is, the spawn that holds it, and its resources. It is 1,920 by 1,080, as `push_wall`
+/// says.
 pub fn push_picture(
     alloc: Global,
     text: &mut Vec<u8>,

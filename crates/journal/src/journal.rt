@@ -19,8 +19,8 @@ pub trait Journal: Drop {
         ensures { is_honest self.now ≡ true → result ≡ true };
 
     /// Appends whole lines, on a line of their own where what is held has no end of its last line.
-    /// Answers whether they are kept: on a disk they are synced then. Else it is missed, and a front
-    /// of them may be held.
+    /// Answers whether they are kept: on a disk they are synced then. Else it is missed, and a
+    /// front of them may be held.
     fn append(&mut self, lines: &[u8]) -> bool
         // Proved: Lines that are appended stand whole behind what an honest journal held, and
         // where its last line had no end, that gets one first; or a front of them does, and it is

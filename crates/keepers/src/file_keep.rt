@@ -67,8 +67,8 @@ impl<'a, R: Locks> FileKeep<SystemDisk<'a, R>> {
         }
     }
 
-    /// The same without a wait: none where another has the lock. Nor does a save of it wait: it fails
-    /// where another has locked what is left under the draft's name.
+    /// The same without a wait: none where another has the lock. Nor does a save of it wait: it
+    /// fails where another has locked what is left under the draft's name.
     pub fn try_lock(
         rt: &'a R,
         alloc: Global,

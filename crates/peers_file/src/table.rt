@@ -23,7 +23,8 @@ impl Model for PeerTable {
 }
 
 impl PeerTable {
-    ghost use Rattle.std.specs.Prelude.{◌≡◌, ◌++◌, IfErr, IfOk, Option, is_some, length, option_map};
+    ghost use Rattle.std.specs.Prelude.{◌≡◌, ◌++◌, IfErr, IfOk};
+    ghost use Rattle.std.specs.Prelude.{Option, is_some, length, option_map};
     ghost use Rattle.std.specs.Prelude.{slice_get};
     ghost use Rattle.std.specs.Option.{option_copied};
     ghost use Rattle.url.specs.Parts.{Parts};

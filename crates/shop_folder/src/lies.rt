@@ -11,8 +11,8 @@ pub enum Lies {
 }
 
 impl Lies {
-    /// What the system says that lies under a path. No contract says more: others may make or remove
-    /// it at any time.
+    /// What the system says that lies under a path. No contract says more: others may make or
+    /// remove it at any time.
     pub fn at<R: Files>(rt: &R, path: &str) -> Lies {
         match fs::symlink_metadata(rt, path) {
             Ok(there) if there.is_file() => Lies::File,

@@ -34,9 +34,9 @@ fn is_served<R: Files>(rt: &R, alloc: Global, folder: &str) -> Result<bool, Allo
 }
 
 /// The controller that a file is for: in a folder with a peers' file the one of the file's name; in
-/// a folder in such a folder the worker of that folder's name whose master has the file's name; none
-/// at all where such a name may not be that of a file; and else any. The folder that a process works
-/// in isn't looked at from within another.
+/// a folder in such a folder the worker of that folder's name whose master has the file's name;
+/// none at all where such a name may not be that of a file; and else any. The folder that a process
+/// works in isn't looked at from within another.
 pub fn owner_of<'a, R: Files>(
     rt: &R,
     alloc: Global,

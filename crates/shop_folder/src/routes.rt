@@ -34,8 +34,8 @@ pub(crate) fn in_receivers(
 
 /// The path of the file of the controller of a folder that a message to a receiver from a sender is
 /// for, where this lies under the receiver's name: the file of that name; or, where that is the
-/// folder of a worker for many masters, the file of the sender's name in it. None where the one that
-/// is wanted isn't a file name.
+/// folder of a worker for many masters, the file of the sender's name in it. None where the one
+/// that is wanted isn't a file name.
 pub fn file_for(
     alloc: Global,
     folder: &str,

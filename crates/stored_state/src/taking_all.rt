@@ -54,8 +54,8 @@ fn bytes_of(alloc: Global, sender: Option<Id>, outcome: Outcome) -> Result<Taken
 }
 
 /// What a step of a controller gives out, or that memory ran out for it, and whether the controller
-/// stays as it was. At an `Err`, where memory runs out for the text that goes out, the controller is
-/// the one behind the step.
+/// stays as it was. At an `Err`, where memory runs out for the text that goes out, the controller
+/// is the one behind the step.
 fn make_step<C: StoredController>(
     alloc: Global,
     controller: &mut C,
@@ -258,8 +258,8 @@ fn are_none(given: &[Result<TakenBytes, Refusal>]) -> bool
 
 /// What each of these gives out, one after the other, where bytes are the text of the controller's
 /// state; the controller as it is then, beside the text of its state, unless no step was made at
-/// all; and whether that is these bytes, which were saved last. Refuses as `addressed_controller` does,
-/// and `Memory`.
+/// all; and whether that is these bytes, which were saved last. Refuses as `addressed_controller`
+/// does, and `Memory`.
 fn take_from(
     alloc: Global,
     bytes: Vec<u8>,
@@ -319,7 +319,8 @@ pub fn take_all<K: Keep>(
     // last; of each its own is given out, in turn, and who sent it. Where the controller isn't one
     // that is addressed nothing is taken.
     // By `ok`, `each`.
-    ensures ok { IfOk result (λ taken. TakesAll K.is_honest K.held to.entry at all.items taken.0.items
+    ensures ok { IfOk result (λ taken.
+        TakesAll K.is_honest K.held to.entry at all.items taken.0.items
         taken.1 keep.old keep.new) }
     ensures each { IfOk result (λ taken. length taken.0.items ≡ length all.items) }
     // Proved: Where the state isn't loaded, is that of a controller that isn't addressed, or

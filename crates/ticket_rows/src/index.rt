@@ -53,8 +53,10 @@ fn add_row(spots: &mut BTreeMap<Id, Spot>, node: usize, row: &NodeRow) -> Result
 }
 
 impl Index {
-    ghost use Rattle.std.specs.Prelude.{◌≡◌, ◌<◌, [], ℕ, List, None, Some, suc, false, true, is_some};
-    ghost use Rattle.std.specs.Prelude.{if◌then◌else◌, length, slice_get, IfOk, IfSome, OnErr, OnOk};
+    ghost use Rattle.std.specs.Prelude.{◌≡◌, ◌<◌, [], ℕ, List, None};
+    ghost use Rattle.std.specs.Prelude.{Some, suc, false, true, is_some};
+    ghost use Rattle.std.specs.Prelude.{if◌then◌else◌, length, slice_get, IfOk};
+    ghost use Rattle.std.specs.Prelude.{IfSome, OnErr, OnOk};
     ghost use Rattle.std.specs.List.{insert};
     ghost use Rattle.std.specs.Option.{option_and_then};
     ghost use Rattle.std.specs.Str.{bytes_eq};

@@ -29,8 +29,10 @@ impl Model for IndexedRows {
 }
 
 impl IndexedRows {
-    ghost use Rattle.std.specs.Prelude.{◌≡◌, ◌∷◌, ◌++◌, [], ◌<◌, ◌≤◌, None, Some, false, true, length};
-    ghost use Rattle.std.specs.Prelude.{is_some, slice_get, slice_set, if◌then◌else◌, IfOk, IfSome, IsOk, OnErr};
+    ghost use Rattle.std.specs.Prelude.{◌≡◌, ◌∷◌, ◌++◌, [], ◌<◌, ◌≤◌};
+    ghost use Rattle.std.specs.Prelude.{None, Some, false, true, length};
+    ghost use Rattle.std.specs.Prelude.{is_some, slice_get, slice_set, if◌then◌else◌};
+    ghost use Rattle.std.specs.Prelude.{IfOk, IfSome, IsOk, OnErr};
     ghost use Rattle.std.specs.Prelude.{OnOk, slice_index_or};
     ghost use Rattle.std.specs.List.{list_all, list_any, position};
     ghost use Rattle.std.specs.Option.{option_copied, option_map, option_map_or};

@@ -1,4 +1,5 @@
-ghost use Rattle.std.specs.Prelude.{◌≡◌, ◌+◌, ◌*◌, ◌^◌, ◌<◌, ◌≤◌, ℕ, Some, IfOk, IfSome, length, map};
+ghost use Rattle.std.specs.Prelude.{◌≡◌, ◌+◌, ◌*◌, ◌^◌, ◌<◌, ◌≤◌};
+ghost use Rattle.std.specs.Prelude.{ℕ, Some, IfOk, IfSome, length, map};
 ghost use Rattle.std.specs.Prelude.{slice_get};
 ghost use Rattle.ticket_rows.specs.Labels.{AreLabels, Fits, Rise, even_labels, place_in, places_of};
 

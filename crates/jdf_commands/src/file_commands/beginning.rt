@@ -47,8 +47,8 @@ fn controller_of(opening: Opening) -> AnyController
     }
 }
 
-/// The controller that the input begins, which is one that is addressed. Refuses as `Input` what the
-/// input is refused for, `OtherName`, and `Memory`.
+/// The controller that the input begins, which is one that is addressed. Refuses as `Input` what
+/// the input is refused for, `OtherName`, and `Memory`.
 fn beginning_of(alloc: Global, input: &[u8], to: Addressee<'_>) -> Result<AnyController, Fault>
     ensures ok { IfOk result (begins.IsBeginning to.entry input.now) }
     ensures refused { IfErr result (begins.IsNoBeginning to.entry input.now) }

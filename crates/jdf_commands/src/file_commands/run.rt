@@ -161,8 +161,8 @@ fn run_listing<R: Locks + Clock + Alloc + Clone + Drop, I: Read, W: Write, F: Wr
 /// with three quarters of the bytes that a message has at most over HTTP, or more, is noted in
 /// `faults`. `show --picture` and `list` are at the time of the clock where none is named, and give
 /// up as `ReadFailed`, with status 4, where that tells none. Of a folder `list` notes each file
-/// that holds no controller of its name, with the status 1. Where `list` can't read what it lists, and
-/// where `check` can't read its input, what the system says of that stands behind the refusal.
+/// that holds no controller of its name, with the status 1. Where `list` can't read what it lists,
+/// and where `check` can't read its input, what the system says of that stands behind the refusal.
 ///
 /// The line of each step that `order` and `take` save is appended to the journal behind the save,
 /// while the file is locked, unless the controller refused the order or the message.

@@ -56,8 +56,8 @@ fn take_answer<R: Locks, J: Journal>(
     answer_output(alloc, &given, &message)
 }
 
-/// Posts a message to where it is sent, and has the controller in the file take the answer, if there
-/// is one. Gives up as `send` and `take` do.
+/// Posts a message to where it is sent, and has the controller in the file take the answer, if
+/// there is one. Gives up as `send` and `take` do.
 fn post_order<R: Locks + Net + Clock, J: Journal>(
     rt: &R,
     alloc: Global,

@@ -53,9 +53,9 @@ fn read_named<I: Read>(
     }
 }
 
-/// Posts a message to a destination, and reads the response, for `EXCHANGE_SECONDS` at most. Refuses
-/// `NoConnection`, also where none is there within that time and where the clock can't be read;
-/// `WriteFailed`; and what `receive` refuses the response for.
+/// Posts a message to a destination, and reads the response, for `EXCHANGE_SECONDS` at most.
+/// Refuses `NoConnection`, also where none is there within that time and where the clock can't be
+/// read; `WriteFailed`; and what `receive` refuses the response for.
 pub(crate) fn post<R: Net + Clock>(
     rt: &R,
     alloc: Global,

@@ -4,7 +4,8 @@ ghost use Rattle.std.specs.Prelude.{◌≡◌, false, IfErr, IfOk};
 ghost use Rattle.ticket_items.specs.declared.refusal.Refusal.TheVariants.{Memory};
 ghost use Rattle.streams.specs.declared.refused.Refused.TheVariants.{Core};
 ghost use Rattle.streams.specs.declared.fault.Fault.TheVariants.{Input};
-ghost use Rattle.jdf_send.specs.SendCommand.{EndsAnswer, EndsSend, GivesAnswer, IsRefusalIn, IsUntold};
+ghost use Rattle.jdf_send.specs.SendCommand.{EndsAnswer, EndsSend, GivesAnswer};
+ghost use Rattle.jdf_send.specs.SendCommand.{IsRefusalIn, IsUntold};
 ghost use Rattle.jdf_send.specs.SendCommand.{TellsRefusal, answer_line};
 ghost use Rattle.jdf_send.specs.declared.send_command.run.SendResult.TheVariants.{NoUrl};
 ghost use Rattle.streams.specs.Streams.{IsUntouched, traffic};
@@ -177,15 +178,16 @@ pub(crate) fn tell_status<F: Write>(status: u16, faults: &mut Counted<F>) -> u8
 /// Sends the message that a file holds, or that comes on standard input where no file is named or
 /// that is `-`, to the controller that serves at a URL, `http://host[:port]/path`, or that a peers'
 /// file has for its receiver, whose path stands behind a `@`, and writes the text of its answer on
-/// a line, if it has one. Answers the exit status: 0 where the message was taken; 1 where the answer refuses it, which
-/// is told with who refused, but for a spawn that is declined as it was asked to be given up; 1 too
-/// where the status of the response isn't 200 or no URL is known for the receiver, which is told,
-/// and then nothing is written; 3 where what was answered is no message. For a text that is no such
-/// URL it reads and sends nothing, tells that, and answers 2. Where it gives up, it tells why and
-/// answers the status of the fault: 1 where memory ran out, 3 where the message has more bytes than
-/// `MAX_BODY_BYTES`, and it isn't sent; 4 where a file, a stream or the connection failed or the
-/// response isn't one, and then the message may have been taken. Behind a fault of a file or of the
-/// connection stands its path or address, and what the system says of it.
+/// a line, if it has one. Answers the exit status: 0 where the message was taken; 1 where the
+/// answer refuses it, which is told with who refused, but for a spawn that is declined as it was
+/// asked to be given up; 1 too where the status of the response isn't 200 or no URL is known for
+/// the receiver, which is told, and then nothing is written; 3 where what was answered is no
+/// message. For a text that is no such URL it reads and sends nothing, tells that, and answers 2.
+/// Where it gives up, it tells why and answers the status of the fault: 1 where memory ran out, 3
+/// where the message has more bytes than `MAX_BODY_BYTES`, and it isn't sent; 4 where a file, a
+/// stream or the connection failed or the response isn't one, and then the message may have been
+/// taken. Behind a fault of a file or of the connection stands its path or address, and what the
+/// system says of it.
 pub fn run_send<R: Files + Net + Clock, I: Read, W: Write, F: Write>(
     rt: &R,
     alloc: Global,

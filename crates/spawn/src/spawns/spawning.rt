@@ -203,8 +203,8 @@ fn enter(
     }
 }
 
-/// Spawns a node that nothing is against, as `spawn` does, and gives the spawn what it claims, which
-/// none holds. Refuses `Memory` alone, and then changes nothing.
+/// Spawns a node that nothing is against, as `spawn` does, and gives the spawn what it claims,
+/// which none holds. Refuses `Memory` alone, and then changes nothing.
 pub(crate) fn spawn_free(
     alloc: Global,
     ticket: &mut Ticket,

@@ -1,6 +1,7 @@
 //! What the structural edits do, which add to the tree.
 
-ghost use Rattle.std.specs.Prelude.{◌≡◌, ◌∷◌, ◌++◌, [], ◌<◌, Some, suc, false, true, length, slice_get};
+ghost use Rattle.std.specs.Prelude.{◌≡◌, ◌∷◌, ◌++◌, [], ◌<◌, Some};
+ghost use Rattle.std.specs.Prelude.{suc, false, true, length, slice_get};
 ghost use Rattle.std.specs.Prelude.{OnErr, OnOk};
 ghost use Rattle.std.specs.List.{insert};
 ghost use Rattle.ticket_items.specs.Ids.{are_distinct, mem};
