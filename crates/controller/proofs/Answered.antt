@@ -7,7 +7,7 @@ use Rattle.ticket_items.specs.declared.refusal.Refusal.TheVariants.{Memory}
 use Rattle.controller.specs.declared.done.Done.{Done}
 use Rattle.controller.specs.declared.message.Message.{Message}
 use Rattle.controller.specs.declared.queue_status.QueueStatus.{QueueStatus}
-use Rattle.controller.specs.declared.reply.Reply.{Reply}
+use Rattle.world_items.specs.declared.reply.Reply.{Reply}
 use Rattle.controller.specs.Reply.{answer_to}
 use Rattle.controller.specs.Step.{Makes, Step, Taking, done_step, message_step, refused_step, unless_refused}
 

@@ -9,31 +9,10 @@ use Rattle.controller.specs.declared.done.Done.{Done}
 use Rattle.controller.specs.declared.message.Message.{Message}
 use Rattle.controller.specs.declared.outcome.Outcome.{Outcome}
 use Rattle.controller.specs.declared.queue_status.QueueStatus.{QueueStatus}
-use Rattle.controller.specs.declared.reply.Reply.{Reply}
+use Rattle.world_items.specs.declared.reply.Reply.{Reply}
 use Rattle.controller.specs.declared.taken.Taken.{Taken}
 use Rattle.controller.specs.Reply.{answer_to}
-
--- what is replied, what is sent, and the state that it leads to
-pub record Step (S M : Type 0) : Type 0 where
-  pub reply : Result Reply Refusal
-  pub sent : Option M
-  pub next : S
-
--- what is refused sends nothing, and changes nothing
-abbrev pub refused_step : {S M : Type 0} → Refusal → S → Step S M
-refused_step e s = record { reply = Err e; sent = None; next = s }
-
--- the refusal, if there is one, or else the step
-abbrev pub unless_refused : {S M : Type 0} → Option Refusal → S → Step S M → Step S M
-unless_refused why s step = option_map_or (λ e. refused_step e s) why step
-
--- the step, with what is made of its message, and with what is made of its state
-abbrev pub with_message : {S M N : Type 0} → (M → N) → Step S M → Step S N
-with_message f step =
-    record { reply = step.reply; sent = option_map f step.sent; next = step.next }
-
-abbrev pub with_state : {S T M : Type 0} → (S → T) → Step S M → Step T M
-with_state f step = record { reply = step.reply; sent = step.sent; next = f step.next }
+pub use Rattle.plain_shop.specs.Step.{Step, refused_step, unless_refused, with_message, with_state}
 
 -- ---- a message
 

@@ -1,5 +1,5 @@
 use crate::message::Message;
-use crate::reply::Reply;
+use world_items::Reply;
 
 /// What came of an order that wasn't refused.
 #[derive(Drop)]

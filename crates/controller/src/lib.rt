@@ -10,7 +10,6 @@ mod done;
 mod message;
 mod outcome;
 mod queue_status;
-mod reply;
 mod taken;
 
 pub use body::Body;
@@ -20,5 +19,5 @@ pub use done::Done;
 pub use message::Message;
 pub use outcome::Outcome;
 pub use queue_status::QueueStatus;
-pub use reply::Reply;
 pub use taken::Taken;
+pub use world_items::Reply;

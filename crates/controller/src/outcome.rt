@@ -1,6 +1,6 @@
 use crate::message::Message;
-use crate::reply::Reply;
 use ticket_tree::Refusal;
+use world_items::Reply;
 
 /// What came of a message.
 #[derive(Drop)]

@@ -1,5 +1,5 @@
 use crate::queue_status::QueueStatus;
-use crate::reply::Reply;
+use world_items::Reply;
 
 /// What is told of a message that isn't refused.
 #[derive(Clone, Copy)]

@@ -23,8 +23,8 @@ use Rattle.spawn.proofs.Holding.{find_as}
 use Rattle.worker_core.proofs.KeptStored.{a_kept_worker_is_stored}
 use Rattle.worker_core.specs.Stored.{is_worker}
 use Rattle.worker_core.specs.Worker.{IsKeptEntry, IsKeptPart, State, end_word, keeps_part, state}
-use Rattle.worker_core.specs.declared.end.End.{End}
-use Rattle.worker_core.specs.declared.end.End.TheVariants.{Completed, Aborted}
+use Rattle.world_items.specs.declared.end.End.{End}
+use Rattle.world_items.specs.declared.end.End.TheVariants.{Completed, Aborted}
 use Rattle.worker_core.specs.declared.entry.Entry.{Entry}
 use Rattle.worker_core.specs.declared.stage.Stage.{Stage}
 use Rattle.worker_core.specs.declared.stage.Stage.TheVariants.{Open, Done, Closed, Declined}

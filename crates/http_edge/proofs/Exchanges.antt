@@ -9,7 +9,7 @@ use Rattle.streams.specs.declared.refused.Refused.{Refused}
 use Rattle.streams.specs.declared.refused.Refused.TheVariants.{ReadFailed, Stale}
 use Rattle.stored_state.specs.Held.{GivesNothing, KeptState}
 use Rattle.stored_state.specs.Step.{IsSaved, TextStep}
-use Rattle.controller.specs.declared.reply.Reply.{Reply}
+use Rattle.world_items.specs.declared.reply.Reply.{Reply}
 use Rattle.streams.specs.Streams.{Writes, WritesFront}
 use Rattle.http_message.specs.Status.{done_status, status_of}
 use Rattle.http_message.specs.Texts.{response_text}

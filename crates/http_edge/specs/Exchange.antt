@@ -5,7 +5,7 @@ use Rattle.std.specs.Option.{option_map}
 use Rattle.serde_json.specs.Data.{Data}
 use Rattle.ticket_items.specs.declared.refusal.Refusal.TheVariants.{Memory}
 use Rattle.controller.specs.declared.message.Message.{Message}
-use Rattle.controller.specs.declared.reply.Reply.{Reply}
+use Rattle.world_items.specs.declared.reply.Reply.{Reply}
 use Rattle.ticket_items.specs.declared.refusal.Refusal.{Refusal}
 use Rattle.jmf_message.specs.Decoded.{IsRefusalOf as IsUndecoded}
 use Rattle.streams.specs.Streams.{IsUntouched, Traffic, Writes, WritesFront}

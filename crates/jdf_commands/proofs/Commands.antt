@@ -3,7 +3,7 @@ use Rattle.std.proofs.Common.{◌≡◌, ℕ, Bool, List, Option, Result, Ok, Er
 use Rattle.std.specs.Prelude.{IsErrAnd}
 use Rattle.ticket_items.specs.declared.refusal.Refusal.{Refusal}
 use Rattle.ticket_items.specs.declared.refusal.Refusal.TheVariants.{Memory}
-use Rattle.controller.specs.declared.reply.Reply.{Reply}
+use Rattle.world_items.specs.declared.reply.Reply.{Reply}
 use Rattle.keepers.specs.InFile.{InFile}
 use Rattle.keepers.specs.OnDisk.{OnDisk}
 use Rattle.stored_state.specs.Held.{KeptState}

@@ -7,7 +7,7 @@ use Rattle.controller.specs.declared.message.Message.{Message}
 use Rattle.streams.specs.declared.refused.Refused.{Refused as CallRefused}
 use Rattle.json_profile.specs.ReadAs.{IsReadAs}
 use Rattle.worker_core.specs.Worker.{State as WorkerState}
-use Rattle.worker_core.specs.declared.order.Order.{Order}
+use Rattle.world_items.specs.declared.worker_order.Order.{Order}
 use Rattle.controller_form.specs.States.MasterForm.{master_state_read}
 use Rattle.controller_form.specs.States.WorkerForm.{worker_state_read}
 use Rattle.stored_state.specs.Step.{TextStep}

@@ -6,16 +6,16 @@ use Rattle.serde_json.specs.Data.{Data}
 use Rattle.ticket_items.specs.declared.refusal.Refusal.{Refusal}
 use Rattle.controller.specs.Step.{Step}
 use Rattle.controller.specs.declared.message.Message.{Message}
-use Rattle.controller.specs.declared.reply.Reply.{Reply}
+use Rattle.world_items.specs.declared.reply.Reply.{Reply}
 use Rattle.streams.specs.declared.refused.Refused.{Refused as CallRefused}
 use Rattle.json_profile.specs.ReadAs.{IsReadAs}
 use Rattle.worker_core.specs.Orders.{order_step}
 use Rattle.worker_core.specs.Worker.{State as WorkerState}
-use Rattle.worker_core.specs.declared.order.Order.{Order}
+use Rattle.world_items.specs.declared.worker_order.Order.{Order}
 use Rattle.controller_form.specs.States.WorkerForm.{worker_state_read}
 use Rattle.stored_state.specs.Message.{message_text}
 use Rattle.stored_state.specs.Step.{in_text}
-use Rattle.world.specs.Settling.{answer_without_step, number_of, with_sent}
+use Rattle.plain_shop.specs.Settling.{answer_without_step, number_of, with_sent}
 use Rattle.world_items.specs.declared.word.Word.TheVariants as word
 use Rattle.world_items.specs.Word.{word_of}
 use Rattle.master_core.specs.Master as master

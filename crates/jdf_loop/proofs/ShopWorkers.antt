@@ -5,13 +5,13 @@ use Rattle.std.proofs.lemmas.Option.{slice_get-get_or}
 use Rattle.std.specs.List.{position}
 use Rattle.ticket_items.proofs.Places.{below_length}
 use Rattle.controller.specs.declared.message.Message.{Message}
-use Rattle.controller.specs.declared.reply.Reply.{Reply}
+use Rattle.world_items.specs.declared.reply.Reply.{Reply}
 use Rattle.streams.specs.declared.refused.Refused.{Refused as CallRefused}
 use Rattle.worker_core.specs.Messages.{on_body, take_step}
 use Rattle.worker_core.specs.Worker.{State as WorkerState}
 use Rattle.controller_form.specs.States.WorkerForm.{worker_state_read}
 use Rattle.stored_state.specs.Step.{in_text}
-use Rattle.world.specs.Settling.{number_of, with_sent}
+use Rattle.plain_shop.specs.Settling.{number_of, with_sent}
 use Rattle.jdf_loop.specs.EventLine.{handed_line}
 use Rattle.jdf_loop.specs.Handing.{Takes}
 use Rattle.jdf_loop.specs.Shop.{ChangesWorker, HandsToNamed, InMemory, State, held_text, is_honest, is_named, worker_state}

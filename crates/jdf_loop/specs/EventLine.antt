@@ -1,14 +1,14 @@
 -- The lines of events.
 use Rattle.std.specs.Prelude.{ℕ, Bool, false, true, List, Option, None, Some}
 use Rattle.std.specs.List.{flat_map, list_any}
-use Rattle.controller.specs.declared.reply.Reply.{Reply}
+use Rattle.world_items.specs.declared.reply.Reply.{Reply}
 use Rattle.world_items.specs.Word.{word_of}
 use Rattle.stored_state.specs.Step.{TextStep}
 use Rattle.jdf_commands.specs.WorldCommand.Run as world_run
 use Rattle.streams.specs.Fault.{refused_line}
 use Rattle.streams.specs.declared.refused.Refused.{Refused as CallRefused}
 use Rattle.streams.specs.declared.refused.Refused.TheVariants.{Core, TooLarge}
-use Rattle.world.specs.Settling.{number_of}
+use Rattle.plain_shop.specs.Settling.{number_of}
 use Rattle.world_items.specs.declared.word.Word.TheVariants as word
 use Rattle.jdf_loop.specs.declared.event_line.EventLine.{EventLine}
 use Rattle.jdf_loop.specs.declared.event_line.EventLine.TheVariants.{Answered, Refused}

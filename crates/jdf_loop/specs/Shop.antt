@@ -11,24 +11,24 @@ use Rattle.ticket_items.specs.declared.refusal.Refusal.{Refusal}
 use Rattle.ticket_items.specs.declared.refusal.Refusal.TheVariants.{UnknownWorker}
 use Rattle.ticket_rows.specs.Ticket.{Job}
 use Rattle.controller.specs.declared.message.Message.{Message}
-use Rattle.controller.specs.declared.reply.Reply.{Reply}
+use Rattle.world_items.specs.declared.reply.Reply.{Reply}
 use Rattle.streams.specs.declared.refused.Refused.{Refused as CallRefused}
 use Rattle.streams.specs.declared.refused.Refused.TheVariants.{TooLarge}
 use Rattle.master_core.specs.Master as master
 use Rattle.master_core.specs.Messages as master_messages
 use Rattle.master_core.specs.Orders as master_orders
-use Rattle.master_core.specs.declared.order.Order as master_order
+use Rattle.world_items.specs.declared.master_order.Order as master_order
 use Rattle.worker_core.specs.Messages as worker_messages
 use Rattle.worker_core.specs.Orders as worker_orders
 use Rattle.worker_core.specs.Worker as worker
-use Rattle.worker_core.specs.declared.order.Order as worker_order
+use Rattle.world_items.specs.declared.worker_order.Order as worker_order
 use Rattle.json_profile.specs.ReadAs.{IsReadAs}
 use Rattle.controller_form.specs.States.MasterForm.{master_state_data, master_state_read}
 use Rattle.controller_form.specs.States.WorkerForm.{worker_state_data, worker_state_read}
 use Rattle.stored_state.specs.Held.{KeptState}
 use Rattle.stored_state.specs.Message.{IsOfMessage}
 use Rattle.stored_state.specs.Step.{IsSaved, TextStep, in_text}
-use Rattle.world.specs.Settling.{answer_without_step, number_of, with_sent}
+use Rattle.plain_shop.specs.Settling.{answer_without_step, number_of, with_sent}
 use Rattle.world.specs.State.{message_at, new_worker}
 use Rattle.world_items.specs.declared.event.Event.{Event}
 use Rattle.world_items.specs.declared.what.What.{What}

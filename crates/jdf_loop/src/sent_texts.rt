@@ -19,7 +19,7 @@ impl Model for SentTexts {
 impl SentTexts {
     ghost use Rattle.std.specs.Prelude.{◌≡◌, [], IfOk, OnErr, OnOk};
     ghost use Rattle.std.specs.Option.{option_map};
-    ghost use Rattle.world.specs.Settling as sending;
+    ghost use Rattle.plain_shop.specs.Settling as sending;
     ghost use Rattle.world.specs.State.{message_at};
 
     /// Nothing was sent.

@@ -5,7 +5,7 @@ ghost use Rattle.serde_json.specs.Written.{compact_text};
 ghost use Rattle.controller_form.specs.States.WorkerForm.{worker_state_read};
 ghost use Rattle.stored_state.specs.Message.{IsOfMessage};
 ghost use Rattle.world_items.specs.Word.{word_of};
-ghost use Rattle.world.specs.Settling as settling;
+ghost use Rattle.plain_shop.specs.Settling as settling;
 ghost use Rattle.world.specs.State.{new_worker};
 ghost use Rattle.jdf_loop.specs.EventLine as event_line;
 ghost use Rattle.jdf_loop.specs.Shop as shops;

@@ -3,7 +3,7 @@
 use Rattle.std.specs.Prelude.{◌≡◌, ◌≢◌, ◌⊎◌, ◌&&◌, ◌++◌, ℕ, Bool, false, not, List, [], ◌∷◌, map, codes}
 use Rattle.std.specs.Prelude.{Option, Some, None, Result, Ok, Err, if◌then◌else◌, option_map}
 use Rattle.ticket_items.specs.declared.refusal.Refusal.{Refusal}
-use Rattle.controller.specs.declared.reply.Reply.{Reply}
+use Rattle.world_items.specs.declared.reply.Reply.{Reply}
 use Rattle.keepers.specs.SystemFile.{count, file_bytes, is_honest, keep_in_file, load_fails, place}
 use Rattle.keepers.specs.SystemFile.{save_fails}
 use Rattle.journal.specs.Journal.{IsAppended, IsLeft, IsMissed, Misses}

@@ -2,7 +2,7 @@
 use Rattle.std.specs.Prelude.{◌≡◌, ◌⊎◌, ℕ, ◌-◌, ◌==◌, Bool, true, false, not, List, ◌∷◌, ◌++◌, length}
 use Rattle.std.specs.Prelude.{Option, Some, None, Result, Ok, Err, slice_get, if◌then◌else◌}
 use Rattle.ticket_items.specs.declared.refusal.Refusal.{Refusal}
-use Rattle.controller.specs.declared.reply.Reply.{Reply}
+use Rattle.world_items.specs.declared.reply.Reply.{Reply}
 
 -- whether a last byte ends no line
 abbrev pub is_open : Option ℕ → Bool

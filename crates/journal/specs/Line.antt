@@ -6,7 +6,7 @@ use Rattle.serde_json.specs.Data.{Data, Members, member, no_members, number, obj
 use Rattle.serde_json.specs.Written.{compact_text}
 use Rattle.ticket_items.specs.SpawnId.{spawn_text}
 pub use Rattle.controller.specs.Reply.{spawn_of_reply, word_of}
-use Rattle.controller.specs.declared.reply.Reply.{Reply}
+use Rattle.world_items.specs.declared.reply.Reply.{Reply}
 use Rattle.journal.specs.declared.line.Step.{Step}
 
 -- who asked for a step, where that is known

@@ -39,13 +39,13 @@ use Rattle.spawn.proofs.GoodCopies.{good_node}
 use Rattle.spawn.proofs.SoundPart.{false_by, node_among_ids}
 use Rattle.spawn.proofs.Standing.{ids_apart}
 use Rattle.ticket_tree.proofs.OnPlaces.{ids_of_places}
-use Rattle.spawn.specs.Claim.{claim, ids_of, is_claimed}
+use Rattle.plain_shop.specs.Claim.{claim, ids_of, is_claimed}
 use Rattle.spawn.specs.Laws.{StandApart}
 use Rattle.spawn.specs.Parts.{ancestor, ancestors, part_for}
 use Rattle.spawn.specs.Records.{is_out}
 use Rattle.spawn.specs.Table.{holder_at, holder_of}
 use Rattle.spawn.specs.declared.records.spawn_rec.SpawnRec.{SpawnRec}
-use Rattle.spawn.specs.declared.tables.holder.Holder.TheVariants.{Master, Spawn}
+use Rattle.world_items.specs.declared.holder.Holder.TheVariants.{Master, Spawn}
 
 -- an edit of what the master holds keeps the part of each spawn that is out
 abbrev pub EditKeepsParts : Type 0

@@ -24,7 +24,7 @@ use Rattle.master_core.proofs.RecordPlaces.{OutThere}
 use Rattle.master_core.proofs.Refusals.{edit_free}
 use Rattle.master_core.specs.Master.{IsConsistent, IsInStep, State, merged_record, state, withdrawn_record}
 use Rattle.master_core.specs.Orders.{allowed_step, edit_refusal}
-use Rattle.master_core.specs.declared.order.Order.TheVariants as order
+use Rattle.world_items.specs.declared.master_order.Order.TheVariants as order
 
 -- ---- a spawn that ends
 

@@ -17,15 +17,15 @@ use Rattle.ticket_rows.specs.Ticket.{first_of, has_node, unless}
 use Rattle.controller.proofs.Answered.{is_idle, replies_so}
 use Rattle.controller.proofs.NeverMemory.{IsOther, either, later, none, other, test, three, unknown}
 use Rattle.controller.specs.Step.{refused_step}
-use Rattle.spawn.specs.Claim.{ids_of, linked_outside}
+use Rattle.plain_shop.specs.Claim.{ids_of, linked_outside}
 use Rattle.spawn.specs.Spawning as spawning
 use Rattle.spawn.specs.declared.records.spawn_rec.SpawnRec.{SpawnRec}
-use Rattle.spawn.specs.declared.tables.holder.Holder.{Holder}
-use Rattle.spawn.specs.declared.tables.holder.Holder.TheVariants as held_by
+use Rattle.world_items.specs.declared.holder.Holder.{Holder}
+use Rattle.world_items.specs.declared.holder.Holder.TheVariants as held_by
 use Rattle.master_core.specs.Master as master
 use Rattle.master_core.specs.Orders as master_orders
-use Rattle.master_core.specs.declared.order.Order as master_order
-use Rattle.master_core.specs.declared.order.Order.TheVariants as to_master
+use Rattle.world_items.specs.declared.master_order.Order as master_order
+use Rattle.world_items.specs.declared.master_order.Order.TheVariants as to_master
 
 held : (h : Option Holder) → IsOther (option_map_or master_orders.held_refusal h None)
 held None = tt

@@ -8,7 +8,7 @@ use Rattle.ticket_items.specs.declared.refusal.Refusal.TheVariants.{UnknownNode,
 use Rattle.ticket_rows.specs.Homes.{has_resource}
 use Rattle.ticket_rows.specs.Place.{places, node_places, up}
 use Rattle.ticket_rows.specs.Ticket.{has_node, unless, first_of}
-use Rattle.spawn.specs.Claim.{ids_of, linked_outside}
+use Rattle.plain_shop.specs.Claim.{ids_of, linked_outside}
 use Rattle.spawn.specs.Spawning.{not_held, spawn_refusal}
 use Rattle.spawn.specs.declared.records.spawn_rec.SpawnRec.{SpawnRec}
 

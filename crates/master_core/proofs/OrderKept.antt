@@ -21,8 +21,8 @@ use Rattle.master_core.proofs.StandsIn.{edit_stands, good_stands, still_stands}
 use Rattle.master_core.specs.Laws.{OrderIsKept}
 use Rattle.master_core.specs.Master.{IsConsistent, State, next_number}
 use Rattle.master_core.specs.Orders.{allowed_step, next_record, order_refusal}
-use Rattle.master_core.specs.declared.order.Order.{Order}
-use Rattle.master_core.specs.declared.order.Order.TheVariants as order
+use Rattle.world_items.specs.declared.master_order.Order.{Order}
+use Rattle.world_items.specs.declared.master_order.Order.TheVariants as order
 
 edit_kept : (e : Edit) (at : ℕ) (w : State) → IsConsistent w → order_refusal (order.Edit e) w ≡ None → IsConsistent (allowed_step (order.Edit e) at w).next
 edit_kept e at w kept none =

@@ -9,12 +9,12 @@ use Rattle.spawn.specs.declared.records.spawn_rec.SpawnRec.{SpawnRec}
 use Rattle.master_core.proofs.Recorded.{found_last, found_still}
 use Rattle.master_core.proofs.Refusals.{done_order, edit_free, resend_free, withdraw_free}
 use Rattle.master_core.specs.Laws.{AbortIsOfRecord, EditIsOfHeld, NothingIsSent, SubmitIsOfRecord}
-use Rattle.controller.specs.declared.reply.Reply.TheVariants as reply
+use Rattle.world_items.specs.declared.reply.Reply.TheVariants as reply
 use Rattle.master_core.specs.Master.{IsConsistent, State, next_number, record_of}
 use Rattle.spawn.specs.Table.{is_masters}
 use Rattle.master_core.specs.Orders.{abort_of, allowed_step, next_record, order_refusal, order_step, spawn_sent, spawn_to_give_up, submit_of}
-use Rattle.master_core.specs.declared.order.Order.{Order}
-use Rattle.master_core.specs.declared.order.Order.TheVariants as order
+use Rattle.world_items.specs.declared.master_order.Order.{Order}
+use Rattle.world_items.specs.declared.master_order.Order.TheVariants as order
 
 -- ---- what may be changed
 

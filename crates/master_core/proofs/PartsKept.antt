@@ -28,7 +28,7 @@ use Rattle.spawn.proofs.PartKept.{above_apart, allowed}
 use Rattle.spawn.proofs.PartStays.{part_stays}
 use Rattle.spawn.proofs.SoundPart.{false_by}
 use Rattle.spawn.proofs.Standing.{ids_apart}
-use Rattle.spawn.specs.Claim.{claim, ids_of, is_claimed}
+use Rattle.plain_shop.specs.Claim.{claim, ids_of, is_claimed}
 use Rattle.spawn.specs.Laws.{StandApart}
 use Rattle.spawn.specs.Parts.{part_for}
 use Rattle.spawn.specs.Records.{is_out}
@@ -36,7 +36,7 @@ use Rattle.spawn.specs.Spawning.{job_after_spawn, parent_of, spawned_audit}
 use Rattle.spawn.specs.Table.{holder_at, holder_of, holding_record}
 use Rattle.spawn.specs.declared.records.phase.Phase.TheVariants.{Merged, Withdrawn}
 use Rattle.spawn.specs.declared.records.spawn_rec.SpawnRec.{SpawnRec}
-use Rattle.spawn.specs.declared.tables.holder.Holder.TheVariants.{Master, Spawn}
+use Rattle.world_items.specs.declared.holder.Holder.TheVariants.{Master, Spawn}
 use Rattle.merge.proofs.PutPlaces.{put_of_places}
 use Rattle.merge.proofs.PutRows.{put_of_rows}
 use Rattle.merge.proofs.PutValid.{put_is_valid}
@@ -46,7 +46,7 @@ use Rattle.merge.specs.Shape.{Fits}
 use Rattle.merge.specs.Withdrawal.{job_after_withdrawal, withdrawn_audit}
 use Rattle.master_core.proofs.EditedParts.{edit_keeps_parts, same_ancestors}
 use Rattle.merge.proofs.Fitting.{part_fits}
-use Rattle.controller.specs.declared.reply.Reply.TheVariants as reply
+use Rattle.world_items.specs.declared.reply.Reply.TheVariants as reply
 use Rattle.master_core.proofs.MessageKept.{unreserved_rows}
 use Rattle.master_core.proofs.MessageLaws.{message_ends_spawns}
 use Rattle.master_core.proofs.OrderLaws.{records_stay}
@@ -56,8 +56,8 @@ use Rattle.master_core.specs.Laws.{MessageKeepsSpawns, OrderKeepsSpawns}
 use Rattle.master_core.specs.Master.{IsConsistent, State, is_of, merged_record, next_number, record_of, withdrawn_record}
 use Rattle.master_core.specs.Messages.{IsValidBody, body_refusal, state_after_merge, state_after_withdrawal, take_refusal, take_step}
 use Rattle.master_core.specs.Orders.{allowed_step, next_record, order_refusal}
-use Rattle.master_core.specs.declared.order.Order.{Order}
-use Rattle.master_core.specs.declared.order.Order.TheVariants as order
+use Rattle.world_items.specs.declared.master_order.Order.{Order}
+use Rattle.world_items.specs.declared.master_order.Order.TheVariants as order
 
 -- ---- what is claimed isn't the parent of a node that is out
 

@@ -27,15 +27,15 @@ use Rattle.spawn.specs.Table.{holder_at}
 use Rattle.spawn.specs.declared.records.phase.Phase.{Phase}
 use Rattle.spawn.specs.declared.records.phase.Phase.TheVariants.{Out, Merged, Withdrawn}
 use Rattle.spawn.specs.declared.records.spawn_rec.SpawnRec.{SpawnRec}
-use Rattle.spawn.specs.declared.tables.holder.Holder.{Holder}
-use Rattle.spawn.specs.declared.tables.holder.Holder.TheVariants as held_by
+use Rattle.world_items.specs.declared.holder.Holder.{Holder}
+use Rattle.world_items.specs.declared.holder.Holder.TheVariants as held_by
 use Rattle.spawn.proofs.PartKept.{mapped_some}
 use Rattle.merge.specs.Alike.{is_fit}
 use Rattle.master_core.specs.Master.{State, holder, is_spawn_out, next_number, record_of}
 use Rattle.master_core.specs.Messages.{body_refusal, is_for_masters, record_refusal, return_refusal, take_refusal}
 use Rattle.master_core.specs.Orders.{allowed_step, edit_refusal, held_refusal, not_held, order_refusal, order_step}
-use Rattle.master_core.specs.declared.order.Order.{Order}
-use Rattle.master_core.specs.declared.order.Order.TheVariants as order
+use Rattle.world_items.specs.declared.master_order.Order.{Order}
+use Rattle.world_items.specs.declared.master_order.Order.TheVariants as order
 
 -- ---- what an edit names stands in the ticket
 

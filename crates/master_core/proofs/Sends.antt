@@ -15,8 +15,8 @@ use Rattle.master_core.proofs.WhileOut.{either_so, while_out_so}
 use Rattle.master_core.specs.Master.{State, record_of}
 use Rattle.master_core.specs.Messages.{is_declined, merge_taking, note_taking, on_body, on_decline, repeat_taking, take_refusal, take_step, withdrawal_taking}
 use Rattle.master_core.specs.Orders.{abort_of, allowed_step, order_refusal, order_step, submit_of}
-use Rattle.master_core.specs.declared.order.Order.{Order}
-use Rattle.master_core.specs.declared.order.Order.TheVariants.{Edit, Spawn, Resend, Withdraw}
+use Rattle.world_items.specs.declared.master_order.Order.{Order}
+use Rattle.world_items.specs.declared.master_order.Order.TheVariants.{Edit, Spawn, Resend, Withdraw}
 
 -- these may
 abbrev pub IsSendable : Option Message → Type 0

@@ -21,7 +21,7 @@ use Rattle.ticket_tree.proofs.OnPlaces.{stands_node, stands_resource}
 use Rattle.ticket_tree.proofs.PlainEdits.{edit_of_places}
 use Rattle.ticket_tree.specs.PlainEdit.{plain_places, with_link}
 use Rattle.spawn.proofs.SoundPart.{node_among_ids}
-use Rattle.spawn.specs.Claim.{is_linked_below, is_linked_outside, linked_outside, linked_ro, linked_rw}
+use Rattle.plain_shop.specs.Claim.{is_linked_below, is_linked_outside, linked_outside, linked_ro, linked_rw}
 use Rattle.spawn.specs.Records.{IsGood}
 use Rattle.spawn.specs.Stored.{stands_in}
 use Rattle.spawn.specs.declared.records.spawn_rec.SpawnRec.{SpawnRec}

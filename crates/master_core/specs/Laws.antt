@@ -9,11 +9,11 @@ use Rattle.controller.specs.Reply.{is_answer, is_freed}
 use Rattle.controller.specs.declared.body.Body.TheVariants.{Return, Answer}
 use Rattle.controller.specs.declared.command.Command.TheVariants.{Abort}
 use Rattle.controller.specs.declared.message.Message.{Message}
-use Rattle.controller.specs.declared.reply.Reply.TheVariants as reply
+use Rattle.world_items.specs.declared.reply.Reply.TheVariants as reply
 use Rattle.spawn.specs.Parts.{part_for}
 use Rattle.spawn.specs.Records.{is_out}
 use Rattle.spawn.specs.declared.records.spawn_rec.SpawnRec.{SpawnRec}
-use Rattle.spawn.specs.declared.tables.holder.Holder.TheVariants as held_by
+use Rattle.world_items.specs.declared.holder.Holder.TheVariants as held_by
 use Rattle.master_core.specs.Master.{IsConsistent, State, holder, is_spawn_out, may_change}
 use Rattle.master_core.specs.Master.{merged_record}
 use Rattle.master_core.specs.Master.{record_of, withdrawn_record}
@@ -22,8 +22,8 @@ use Rattle.master_core.specs.Messages.{take_refusal, take_step}
 use Rattle.master_core.specs.Orders.{abort_of, order_refusal, order_step, spawn_sent}
 use Rattle.master_core.specs.Orders.{spawn_to_give_up}
 use Rattle.master_core.specs.Orders.{submit_of}
-use Rattle.master_core.specs.declared.order.Order.{Order}
-use Rattle.master_core.specs.declared.order.Order.TheVariants as order
+use Rattle.world_items.specs.declared.master_order.Order.{Order}
+use Rattle.world_items.specs.declared.master_order.Order.TheVariants as order
 
 -- ---- what may be changed
 

@@ -13,7 +13,7 @@ use Rattle.spawn.specs.Table.{holder_of, is_masters}
 use Rattle.spawn.specs.declared.records.phase.Phase.{Phase}
 use Rattle.spawn.specs.declared.records.phase.Phase.TheVariants.{Merged, Withdrawn}
 use Rattle.spawn.specs.declared.records.spawn_rec.SpawnRec.{SpawnRec}
-use Rattle.spawn.specs.declared.tables.holder.Holder.{Holder}
+use Rattle.world_items.specs.declared.holder.Holder.{Holder}
 
 -- what a master knows: its name, its workers', its ticket, and the records of its spawns in the
 -- order in which they went out

@@ -21,7 +21,7 @@ use Rattle.controller.specs.declared.command.Command.TheVariants as command
 use Rattle.controller.specs.declared.message.Message.{Message}
 use Rattle.controller.specs.declared.queue_status.QueueStatus.{QueueStatus}
 use Rattle.controller.specs.declared.queue_status.QueueStatus.TheVariants as queue
-use Rattle.controller.specs.declared.reply.Reply.TheVariants as reply
+use Rattle.world_items.specs.declared.reply.Reply.TheVariants as reply
 use Rattle.spawn.specs.Records.{is_out}
 use Rattle.spawn.specs.declared.records.phase.Phase.{Phase}
 use Rattle.spawn.specs.declared.records.phase.Phase.TheVariants.{Out, Merged, Withdrawn}

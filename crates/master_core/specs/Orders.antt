@@ -14,22 +14,16 @@ use Rattle.controller.specs.Step.{Makes, Step, unless_refused}
 use Rattle.controller.specs.declared.body.Body.TheVariants.{Submit, Abort}
 use Rattle.controller.specs.declared.done.Done.{Done}
 use Rattle.controller.specs.declared.message.Message.{Message}
-use Rattle.controller.specs.declared.reply.Reply.TheVariants as reply
+use Rattle.world_items.specs.declared.reply.Reply.TheVariants as reply
 use Rattle.spawn.specs.Parts.{part_for}
 use Rattle.spawn.specs.Spawning.{job_after_spawn, new_record, spawn_refusal}
 use Rattle.spawn.specs.declared.records.spawn_rec.SpawnRec.{SpawnRec}
-use Rattle.spawn.specs.declared.tables.holder.Holder.{Holder}
-use Rattle.spawn.specs.declared.tables.holder.Holder.TheVariants as held_by
-use Rattle.master_core.specs.declared.order.Order.{Order}
-use Rattle.master_core.specs.declared.order.Order.TheVariants as order
+pub use Rattle.world_items.specs.Holder.{held_refusal}
+use Rattle.world_items.specs.declared.master_order.Order.{Order}
+use Rattle.world_items.specs.declared.master_order.Order.TheVariants as order
 use Rattle.master_core.specs.Master.{State, holder, is_spawn_out, next_number, record_of}
 
 -- ---- refusals
-
--- why what a holder has can't be changed by the master, if it can't: a spawn has it
-abbrev pub held_refusal : Holder → Option Refusal
-held_refusal held_by.Master = None
-held_refusal (held_by.Spawn s) = Some (NotHeld s)
 
 -- why the master can't change what has an id, if it can't
 abbrev pub not_held : State → List ℕ → Option Refusal

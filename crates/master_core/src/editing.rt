@@ -5,11 +5,11 @@ ghost use Rattle.ticket_rows.specs.Edit as edits;
 ghost use Rattle.master_core.specs.Orders as orders;
 
 use crate::master::Master;
-use crate::order::Order;
 use controller::{Done, Reply};
 use spawn::Holder;
 use std::alloc::Global;
 use ticket_tree::{Edit, Id, Refusal, Ticket};
+use world_items::master_order::Order;
 
 /// Why what a holder has can't be changed by the master.
 fn held_refusal(holder: Holder) -> Option<Refusal>

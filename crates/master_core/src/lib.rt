@@ -7,7 +7,6 @@ pub mod laws;
 mod master;
 mod master_controller;
 mod names;
-mod order;
 mod ordering;
 mod records;
 mod stored;
@@ -15,4 +14,4 @@ mod taking;
 
 pub use master::Master;
 pub use names::are_apart;
-pub use order::Order;
+pub use world_items::master_order::Order;

@@ -1,5 +1,4 @@
 use crate::names::are_apart;
-use crate::order::Order;
 use crate::stored::holders_of;
 use controller::answering::outcome_of;
 use controller::{Done, Message, Outcome};
@@ -7,6 +6,7 @@ use spawn::{Holder, Holders, SpawnRec, marked};
 use std::alloc::{AllocError, Global};
 use std::marker::Model;
 use ticket_tree::{Id, Ids, Marks, Refusal, Ticket};
+use world_items::master_order::Order;
 
 /// A controller that owns a job's ticket (JDF 1.5, 4.4). It spawns nodes of it to its workers, and
 /// keeps a record of each spawn.

@@ -1,8 +1,8 @@
 use crate::master::Master;
-use crate::order::Order;
 use controller::{Controller, Done, Message, Outcome};
 use std::alloc::{AllocError, Global};
 use ticket_tree::{Id, Refusal};
+use world_items::master_order::Order;
 
 impl Controller for Master {
     ghost use Rattle.master_core.specs.Messages as messages;

@@ -10,13 +10,13 @@ ghost use Rattle.master_core.specs.Master as master;
 ghost use Rattle.master_core.specs.Orders as orders;
 
 use crate::master::Master;
-use crate::order::Order;
 use crate::records::{next_number, record_of};
 use controller::{Body, Done, Message, Reply};
 use spawn::{SpawnRec, may_spawn, part_for, spawn_by_table};
 use std::alloc::{AllocError, Global};
 use ticket_items::is_among;
 use ticket_tree::{Duplicate, Id, Ids, Refusal, SpawnId};
+use world_items::master_order::Order;
 
 /// The names of a sender and a receiver, copied.
 fn names_of(alloc: Global, sender: &Id, receiver: &Id) -> Result<(Id, Id), AllocError>

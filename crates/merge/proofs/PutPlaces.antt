@@ -26,7 +26,7 @@ use Rattle.spawn.proofs.Lifting.{ids_lifted}
 use Rattle.spawn.proofs.PartShows.{not_both}
 use Rattle.spawn.proofs.RowsBelow.{rows_below-around}
 use Rattle.spawn.proofs.Split.{Around, around}
-use Rattle.spawn.specs.Claim.{ids_of}
+use Rattle.plain_shop.specs.Claim.{ids_of}
 use Rattle.spawn.specs.Parts.{above, lifted_row, resources, resources_among}
 use Rattle.spawn.specs.Spawning.{parent_of}
 use Rattle.spawn.specs.declared.records.spawn_rec.SpawnRec.{SpawnRec}

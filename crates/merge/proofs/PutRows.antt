@@ -35,7 +35,7 @@ use Rattle.spawn.proofs.PartShows.{IsOutOf, copy_no_node, copy_outside, look_aro
 use Rattle.spawn.proofs.PartShows.{out_of_claim, stands_below}
 use Rattle.spawn.proofs.Split.{Around, around}
 use Rattle.spawn.proofs.Standing.{named}
-use Rattle.spawn.specs.Claim.{is_claimed}
+use Rattle.plain_shop.specs.Claim.{is_claimed}
 use Rattle.spawn.specs.Parts.{above, lifted_row, resources, resources_among}
 use Rattle.spawn.specs.Records.{IsGood}
 use Rattle.spawn.specs.Spawning.{parent_of}

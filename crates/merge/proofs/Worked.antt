@@ -21,7 +21,7 @@ use Rattle.merge.specs.Shape.{Fits, Shape}
 use Rattle.merge.specs.Withdrawal.{job_after_withdrawal}
 use Rattle.spawn.specs.Parts.{part_for}
 use Rattle.spawn.specs.Table.{holder_of}
-use Rattle.spawn.specs.declared.tables.holder.Holder.TheVariants.{Master, Spawn}
+use Rattle.world_items.specs.declared.holder.Holder.TheVariants.{Master, Spawn}
 use Rattle.spawn.specs.declared.records.phase.Phase.TheVariants.{Out}
 use Rattle.spawn.specs.declared.records.spawn_rec.SpawnRec.{SpawnRec}
 

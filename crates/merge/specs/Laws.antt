@@ -6,13 +6,13 @@ use Rattle.ticket_rows.specs.Place.{Place, places, place_at, row_in}
 use Rattle.ticket_rows.specs.Ticket.{Job, IsValid, are_unreserved}
 use Rattle.ticket_tree.specs.Part.{PartCopy}
 use Rattle.ticket_tree.specs.PlainEdit.{with_row_changed}
-use Rattle.spawn.specs.Claim.{is_claimed}
+use Rattle.plain_shop.specs.Claim.{is_claimed}
 use Rattle.spawn.specs.Laws.{StandApart}
 use Rattle.spawn.specs.Parts.{part_for}
 use Rattle.spawn.specs.Records.{IsGood, is_out}
 use Rattle.spawn.specs.Spawning.{parent_of}
 use Rattle.spawn.specs.Table.{holder_of}
-use Rattle.spawn.specs.declared.tables.holder.Holder.TheVariants.{Master}
+use Rattle.world_items.specs.declared.holder.Holder.TheVariants.{Master}
 use Rattle.spawn.specs.declared.records.spawn_rec.SpawnRec.{SpawnRec}
 use Rattle.merge.specs.Alike.{is_fit}
 use Rattle.merge.specs.PlainPut.{merged_rows, merged_recs}

@@ -7,7 +7,7 @@ use Rattle.ticket_items.specs.Refusal.{holder_of, name_of, number_of}
 use Rattle.ticket_items.specs.SpawnId.{spawn_text}
 use Rattle.ticket_items.specs.declared.refusal.Refusal.{Refusal}
 use Rattle.controller.specs.Reply.{spawn_of_reply, word_of}
-use Rattle.controller.specs.declared.reply.Reply.{Reply}
+use Rattle.world_items.specs.declared.reply.Reply.{Reply}
 use Rattle.streams.specs.declared.refused.Refused.{Refused}
 use Rattle.streams.specs.declared.refused.Refused.TheVariants.{Core}
 use Rattle.http_message.specs.Texts.{refusal_body, served_text}

@@ -8,7 +8,7 @@ use Rattle.json_items.specs.Listed.{data_items}
 use Rattle.json_text.specs.PartWritten.{part_data}
 use Rattle.list_text.specs.JsonLine.{number_data}
 use Rattle.worker_core.specs.Worker.{State, end_word}
-use Rattle.worker_core.specs.declared.end.End.{End}
+use Rattle.world_items.specs.declared.end.End.{End}
 use Rattle.worker_core.specs.declared.entry.Entry.{Entry}
 use Rattle.worker_core.specs.declared.stage.Stage.{Stage}
 use Rattle.worker_core.specs.declared.stage.Stage.TheVariants.{Open, Done, Closed, Declined}

@@ -23,7 +23,7 @@ use Rattle.spawn.proofs.LinkedOutside.{linked_below_is}
 use Rattle.spawn.proofs.Outside.{found_stands, inside, outside}
 use Rattle.spawn.proofs.Split.{Around, all-append}
 use Rattle.spawn.proofs.Standing.{ids_apart}
-use Rattle.spawn.specs.Claim.{ids_of, is_linked_below, is_linked_outside, linked_outside}
+use Rattle.plain_shop.specs.Claim.{ids_of, is_linked_below, is_linked_outside, linked_outside}
 use Rattle.spawn.specs.Parts.{resources}
 
 -- ---- resources row by row

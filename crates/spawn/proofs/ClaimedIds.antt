@@ -23,14 +23,14 @@ use Rattle.spawn.proofs.Outside.{inside, none_found, outside}
 use Rattle.spawn.proofs.RowsBelow.{rows_below-around}
 use Rattle.spawn.proofs.Split.{Around, around, none_below}
 use Rattle.spawn.proofs.Standing.{ids_apart, named}
-use Rattle.spawn.specs.Claim.{is_claimed}
+use Rattle.plain_shop.specs.Claim.{is_claimed}
 use Rattle.spawn.specs.Holdings.{Holdings, IsFree, IsTable, claimed_ids, claims, holding_spawn}
 use Rattle.ticket_tree.proofs.AtNode.{none_below_unknown}
 use Rattle.ticket_tree.specs.At.{rows_below}
 use Rattle.spawn.specs.Records.{is_out}
 use Rattle.spawn.specs.Table.{as_spawn, holder_at, holds}
 use Rattle.spawn.specs.declared.records.spawn_rec.SpawnRec.{SpawnRec}
-use Rattle.spawn.specs.declared.tables.holder.Holder.TheVariants.{Master, Spawn}
+use Rattle.world_items.specs.declared.holder.Holder.TheVariants.{Master, Spawn}
 
 -- ---- a place below a node
 

@@ -13,7 +13,7 @@ use Rattle.ticket_tree.proofs.ByKind.{found_among, found_by_kind, ids_apart, pla
 use Rattle.ticket_tree.proofs.Parents.{one_parent_each}
 use Rattle.ticket_tree.proofs.StaysValid.{edit_is_valid}
 use Rattle.spawn.proofs.EditKeeps.{edit_keeps_claims}
-use Rattle.spawn.specs.Claim.{claim, ids_of, is_claimed, linked_outside}
+use Rattle.plain_shop.specs.Claim.{claim, ids_of, is_claimed, linked_outside}
 use Rattle.spawn.specs.Laws.{EditKeepsApart}
 use Rattle.spawn.specs.Records.{IsGood, is_out}
 use Rattle.spawn.specs.declared.records.spawn_rec.SpawnRec.{SpawnRec}

@@ -33,12 +33,12 @@ use Rattle.spawn.proofs.Outside.{found_stands, kept_found, some_of}
 use Rattle.spawn.proofs.SoundPart.{false_by, node_among_ids}
 use Rattle.spawn.proofs.Standing.{held_some, ids_apart, node_stands, place_of_resource}
 use Rattle.ticket_rows.proofs.Below.{mem-node_ids}
-use Rattle.spawn.specs.Claim.{claim, is_claimed, is_linked_below, is_linked_outside, linked_outside}
-use Rattle.spawn.specs.Claim.{links}
+use Rattle.plain_shop.specs.Claim.{claim, is_claimed, is_linked_below, is_linked_outside, linked_outside}
+use Rattle.plain_shop.specs.Claim.{links}
 use Rattle.spawn.specs.Laws.{EditKeepsClaims}
 use Rattle.spawn.specs.Records.{IsGood, is_out}
 use Rattle.spawn.specs.Table.{holder_at, holder_of, holding_record, holds}
-use Rattle.spawn.specs.declared.tables.holder.Holder.TheVariants.{Master, Spawn}
+use Rattle.world_items.specs.declared.holder.Holder.TheVariants.{Master, Spawn}
 use Rattle.spawn.specs.declared.records.spawn_rec.SpawnRec.{SpawnRec}
 
 -- ---- one place more

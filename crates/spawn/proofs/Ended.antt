@@ -10,11 +10,11 @@ use Rattle.ticket_rows.proofs.AtHome.{find-passes}
 use Rattle.ticket_rows.specs.Place.{Place, place_at, places}
 use Rattle.spawn.proofs.Lawful.{placed}
 use Rattle.spawn.proofs.NewRecord.{good_stays}
-use Rattle.spawn.specs.Claim.{is_claimed}
+use Rattle.plain_shop.specs.Claim.{is_claimed}
 use Rattle.spawn.specs.Laws.{EndKeepsApart, EndKeepsOthers, EndedClaimIsMasters, StandApart}
 use Rattle.spawn.specs.Records.{is_out}
 use Rattle.spawn.specs.Table.{holder_at, holding_record, holds}
-use Rattle.spawn.specs.declared.tables.holder.Holder.TheVariants.{Master, Spawn}
+use Rattle.world_items.specs.declared.holder.Holder.TheVariants.{Master, Spawn}
 use Rattle.spawn.specs.declared.records.spawn_rec.SpawnRec.{SpawnRec}
 
 -- ---- a record put in the place of another

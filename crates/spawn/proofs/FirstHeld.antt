@@ -27,12 +27,12 @@ use Rattle.spawn.proofs.InFront.{in_front, one_passes}
 use Rattle.spawn.proofs.SoundPart.{false_by}
 use Rattle.spawn.proofs.Split.{around}
 use Rattle.spawn.proofs.Standing.{ids_apart}
-use Rattle.spawn.specs.Claim.{ids_of, is_claimed, linked_outside}
+use Rattle.plain_shop.specs.Claim.{ids_of, is_claimed, linked_outside}
 use Rattle.spawn.specs.FirstHeld.{first_answer}
 use Rattle.spawn.specs.Spawning.{holding_claimed}
 use Rattle.spawn.specs.Table.{as_spawn, holder_at, holding_record, spawn_with}
 use Rattle.spawn.specs.declared.records.spawn_rec.SpawnRec.{SpawnRec}
-use Rattle.spawn.specs.declared.tables.holder.Holder.TheVariants.{Master, Spawn}
+use Rattle.world_items.specs.declared.holder.Holder.TheVariants.{Master, Spawn}
 
 -- ---- the first of two lists
 

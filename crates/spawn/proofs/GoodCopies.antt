@@ -24,7 +24,7 @@ use Rattle.spawn.proofs.Outside.{outside, inside}
 use Rattle.spawn.proofs.PartValid.{AreCopies}
 use Rattle.spawn.proofs.Split.{Around}
 use Rattle.spawn.proofs.Standing.{held_some, ids_apart, named, place_of_resource}
-use Rattle.spawn.specs.Claim.{ids_of, is_linked_below, is_linked_outside, linked_outside, linked_ro}
+use Rattle.plain_shop.specs.Claim.{ids_of, is_linked_below, is_linked_outside, linked_outside, linked_ro}
 use Rattle.spawn.specs.Parts.{resources, resources_among}
 use Rattle.spawn.specs.Records.{IsGood}
 use Rattle.spawn.specs.declared.records.spawn_rec.SpawnRec.{SpawnRec}

@@ -11,7 +11,7 @@ use Rattle.ticket_rows.specs.Place.{Place, Thing, named_thing, named_thing_at, n
 use Rattle.ticket_rows.specs.Place.{resource_thing}
 use Rattle.ticket_tree.proofs.PlainOneRow.{name_in, class_in}
 use Rattle.spawn.proofs.SameCopies.{ids-Decides, pairs-Decides}
-use Rattle.spawn.specs.Claim.{ids_of, linked_rw, linked_ro}
+use Rattle.plain_shop.specs.Claim.{ids_of, linked_rw, linked_ro}
 use Rattle.spawn.specs.Records.{IsGood, is_out}
 use Rattle.spawn.specs.Stored.{are_good, is_copy, is_good, is_thing}
 use Rattle.spawn.specs.declared.records.spawn_rec.SpawnRec.{SpawnRec}

@@ -28,8 +28,8 @@ use Rattle.spawn.proofs.Chosen.{resources_cons}
 use Rattle.spawn.proofs.Outside.{around_places}
 use Rattle.spawn.proofs.RowsBelow.{filter-append}
 use Rattle.spawn.proofs.Split.{Around, around, path_after, path_after-append, places_from-append}
-use Rattle.spawn.specs.Claim.{links, is_linked_below, is_linked_outside, linked_outside, ids_of}
-use Rattle.spawn.specs.Claim.{linked_rw, linked_ro}
+use Rattle.plain_shop.specs.Claim.{links, is_linked_below, is_linked_outside, linked_outside, ids_of}
+use Rattle.plain_shop.specs.Claim.{linked_rw, linked_ro}
 use Rattle.ticket_rows.specs.Ticket.{IsValid, has_node}
 use Rattle.spawn.proofs.GoodCopies.{first_of_fixed, first_of_places}
 use Rattle.spawn.proofs.AroundAt.{shows}

@@ -19,8 +19,8 @@ use Rattle.ticket_items.specs.declared.node_row.NodeRow.{NodeRow}
 use Rattle.spawn.proofs.Standing.{StandsAt, node_stands, resource_stands}
 use Rattle.spawn.specs.Records.{is_out}
 use Rattle.spawn.specs.Table.{as_spawn, stand_of, holder_at, holder_of, spawn_with}
-use Rattle.spawn.specs.declared.tables.holder.Holder.{Holder}
-use Rattle.spawn.specs.declared.tables.holder.Holder.TheVariants.{Master, Spawn}
+use Rattle.world_items.specs.declared.holder.Holder.{Holder}
+use Rattle.world_items.specs.declared.holder.Holder.TheVariants.{Master, Spawn}
 use Rattle.spawn.specs.declared.records.spawn_rec.SpawnRec.{SpawnRec}
 
 -- ---- the node at which a known id stands

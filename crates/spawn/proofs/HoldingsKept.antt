@@ -10,7 +10,7 @@ use Rattle.ticket_items.specs.declared.node_row.NodeRow.{NodeRow}
 use Rattle.spawn.proofs.Ended.{find_set, holds_nothing, none_holds}
 use Rattle.spawn.proofs.KeptApart.{free, wanted_too}
 use Rattle.spawn.proofs.NoneHeld.{none_held}
-use Rattle.spawn.specs.Claim.{is_claimed}
+use Rattle.plain_shop.specs.Claim.{is_claimed}
 use Rattle.ticket_rows.specs.Ticket.{Job}
 use Rattle.ticket_tree.proofs.PlainOneRow.{append_of_places}
 use Rattle.spawn.specs.Holdings.{Holdings, IsFree, IsGiven, IsSame, IsTable, claims, holding_spawn}
@@ -18,7 +18,7 @@ use Rattle.spawn.specs.HoldingsLaws.{ClaimIsFree, EndKeepsTable, SpawnKeepsTable
 use Rattle.spawn.specs.Records.{is_out}
 use Rattle.spawn.specs.Spawning.{job_after_spawn, new_record, parent_of, spawned_audit}
 use Rattle.spawn.specs.Table.{as_spawn, holder_at, holding_record, holds}
-use Rattle.spawn.specs.declared.tables.holder.Holder.TheVariants.{Master, Spawn}
+use Rattle.world_items.specs.declared.holder.Holder.TheVariants.{Master, Spawn}
 use Rattle.spawn.specs.declared.records.spawn_rec.SpawnRec.{SpawnRec}
 
 -- ---- a claim given to a spawn, or to none

@@ -23,7 +23,7 @@ use Rattle.ticket_items.specs.declared.node_row.NodeRow.{NodeRow}
 use Rattle.spawn.proofs.Among.{apart_lists, out_of_both, mem_front, mem_back}
 use Rattle.spawn.proofs.Outside.{around_places}
 use Rattle.spawn.proofs.Split.{path_after, Around}
-use Rattle.spawn.specs.Claim.{links, is_linked_below}
+use Rattle.plain_shop.specs.Claim.{links, is_linked_below}
 use Rattle.spawn.proofs.Holding.{any_or}
 
 -- ---- rows one behind the other

@@ -26,7 +26,7 @@ use Rattle.spawn.proofs.PartValid.{resolved-append}
 use Rattle.spawn.proofs.SoundPart.{false_by}
 use Rattle.spawn.proofs.Split.{Around}
 use Rattle.spawn.proofs.Standing.{ids_apart, named}
-use Rattle.spawn.specs.Claim.{ids_of, is_linked_below, is_linked_outside, linked_outside}
+use Rattle.plain_shop.specs.Claim.{ids_of, is_linked_below, is_linked_outside, linked_outside}
 
 -- ---- rows whose paths don't lead through a home don't link what is at home there
 

@@ -20,7 +20,7 @@ use Rattle.spawn.proofs.Among.{kept_keys}
 use Rattle.spawn.proofs.NewRecord.{good_stays, new_is_good}
 use Rattle.spawn.proofs.PartKept.{allowed}
 use Rattle.spawn.proofs.NoneHeld.{none_held, first_holding}
-use Rattle.spawn.specs.Claim.{is_claimed, linked_outside}
+use Rattle.plain_shop.specs.Claim.{is_claimed, linked_outside}
 use Rattle.spawn.specs.Laws.{SpawnKeepsApart}
 use Rattle.spawn.specs.Records.{IsGood}
 use Rattle.spawn.specs.Spawning.{new_record, parent_of, spawn_refusal, spawned_audit}

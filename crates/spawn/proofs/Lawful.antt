@@ -18,12 +18,12 @@ use Rattle.ticket_items.specs.declared.node_row.NodeRow.{NodeRow}
 use Rattle.spawn.proofs.Among.{kept_keys}
 use Rattle.spawn.proofs.Outside.{all_found, kept_found, kept_passes}
 use Rattle.spawn.proofs.Standing.{ids_apart, place_of_node}
-use Rattle.spawn.specs.Claim.{is_claimed, is_linked_below, is_linked_outside, linked_outside}
+use Rattle.plain_shop.specs.Claim.{is_claimed, is_linked_below, is_linked_outside, linked_outside}
 use Rattle.spawn.specs.Laws.{ClaimIsHeld, HeldIsClaimed, ParentIsMasters, StandApart}
 use Rattle.spawn.specs.Records.{IsGood, is_out}
 use Rattle.spawn.specs.Spawning.{parent_of}
 use Rattle.spawn.specs.Table.{holder_at, holder_of, holding_record, holds}
-use Rattle.spawn.specs.declared.tables.holder.Holder.TheVariants.{Master, Spawn}
+use Rattle.world_items.specs.declared.holder.Holder.TheVariants.{Master, Spawn}
 use Rattle.spawn.specs.declared.records.spawn_rec.SpawnRec.{SpawnRec}
 
 -- ---- what passes alone is found

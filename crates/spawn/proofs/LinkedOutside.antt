@@ -23,7 +23,7 @@ use Rattle.spawn.proofs.Outside.{around_places, found_kept, kept_found, kept_pas
 use Rattle.spawn.proofs.RowsBelow.{rows_below-around}
 use Rattle.spawn.proofs.Split.{path_after, around, Around}
 use Rattle.spawn.proofs.Standing.{held_some, ids_apart, place_of_resource, resource_stands}
-use Rattle.spawn.specs.Claim.{ids_of, links, is_linked_below, is_linked_outside, linked_outside}
+use Rattle.plain_shop.specs.Claim.{ids_of, links, is_linked_below, is_linked_outside, linked_outside}
 use Rattle.ticket_tree.specs.At.{rows_below}
 use Rattle.spawn.specs.IdSet.{IsSetOf}
 

@@ -22,7 +22,7 @@ use Rattle.spawn.proofs.HomesBelow.{or_right}
 use Rattle.spawn.proofs.AroundAt.{shows}
 use Rattle.spawn.proofs.Split.{Around, around}
 use Rattle.ticket_tree.specs.At.{IsAt}
-use Rattle.spawn.specs.Claim.{ids_of, linked_outside, linked_rw, linked_ro}
+use Rattle.plain_shop.specs.Claim.{ids_of, linked_outside, linked_rw, linked_ro}
 use Rattle.spawn.specs.Parts.{resources, resources_among}
 use Rattle.spawn.specs.Records.{IsGood}
 use Rattle.spawn.specs.Spawning.{new_record}

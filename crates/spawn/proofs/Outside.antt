@@ -16,7 +16,7 @@ use Rattle.ticket_items.specs.declared.node_row.NodeRow.{NodeRow}
 use Rattle.spawn.proofs.Among.{apart_lists, distinct_back, out_of_both}
 use Rattle.spawn.proofs.Split.{path_after, path_after-append, places_from-append, Around}
 use Rattle.spawn.proofs.Standing.{found_among, ids_apart}
-use Rattle.spawn.specs.Claim.{ids_of}
+use Rattle.plain_shop.specs.Claim.{ids_of}
 
 -- ---- found places
 

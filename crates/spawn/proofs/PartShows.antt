@@ -27,7 +27,7 @@ use Rattle.spawn.proofs.Outside.{found_kept, inside, kept_found, outside}
 use Rattle.spawn.proofs.RowsBelow.{rows_below-around}
 use Rattle.spawn.proofs.Split.{Around, around}
 use Rattle.spawn.proofs.Standing.{ids_apart, named}
-use Rattle.spawn.specs.Claim.{is_claimed, is_linked_below, is_linked_outside}
+use Rattle.plain_shop.specs.Claim.{is_claimed, is_linked_below, is_linked_outside}
 use Rattle.spawn.specs.Laws.{PartShowsClaim, PartShowsNoMore}
 use Rattle.spawn.specs.Parts.{above, lifted_row, part_for, resources, resources_among}
 use Rattle.spawn.specs.Records.{IsGood}

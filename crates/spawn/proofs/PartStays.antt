@@ -14,7 +14,7 @@ use Rattle.ticket_items.specs.declared.resource.Resource.{Resource}
 use Rattle.spawn.proofs.Chosen.{resources_cons, filter_as, filter_twice}
 use Rattle.ticket_tree.proofs.OwnPlaces.{OwnPlaces, stands_below, own_places-rows}
 use Rattle.spawn.proofs.RowsBelow.{filter-append}
-use Rattle.spawn.specs.Claim.{is_claimed, claim, ids_of}
+use Rattle.plain_shop.specs.Claim.{is_claimed, claim, ids_of}
 use Rattle.spawn.specs.Parts.{above, ancestor, ancestors, lifted_row, resources, resources_among}
 use Rattle.ticket_tree.specs.At.{rows_below}
 use Rattle.ticket_items.proofs.Apart.{bytes_eq-same}

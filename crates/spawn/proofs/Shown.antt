@@ -23,7 +23,7 @@ use Rattle.ticket_items.specs.declared.resource.Resource.{Resource}
 use Rattle.ticket_items.specs.declared.spawn_status.SpawnStatus.TheVariants.{SpawnedRO, SpawnedRW}
 use Rattle.spawn.proofs.RowsBelow.{resources_last, filter-append}
 use Rattle.spawn.proofs.GoodCopies.{ids_of_resources}
-use Rattle.spawn.specs.Claim.{ids_of}
+use Rattle.plain_shop.specs.Claim.{ids_of}
 use Rattle.spawn.specs.IdSet.{IdSet, is_in}
 use Rattle.spawn.specs.Marking.{copies, copies_rw, in_order, mark, records_out}
 use Rattle.spawn.specs.OutTables.{Numbers, numbers_in, if_any, mark_in}

@@ -32,7 +32,7 @@ use Rattle.spawn.proofs.Outside.{found_kept, kept_found}
 use Rattle.spawn.proofs.RowsBelow.{rows_below-around}
 use Rattle.spawn.proofs.Split.{AreDeep, Around, around, path_after}
 use Rattle.spawn.proofs.Standing.{ids_apart, named}
-use Rattle.spawn.specs.Claim.{ids_of, is_linked_below, is_linked_outside, linked_outside}
+use Rattle.plain_shop.specs.Claim.{ids_of, is_linked_below, is_linked_outside, linked_outside}
 use Rattle.spawn.specs.Laws.{PartIsSound}
 use Rattle.spawn.specs.Parts.{above, ancestor, ancestors, lifted_row, part_for, resources}
 use Rattle.spawn.specs.Parts.{resources_among}

@@ -18,14 +18,14 @@ use Rattle.ticket_items.specs.declared.refusal.Refusal.TheVariants.{NotHeld, Too
 use Rattle.ticket_items.specs.declared.resource.Resource.{Resource}
 use Rattle.ticket_items.specs.declared.spawn_status.SpawnStatus.TheVariants.{SpawnedRO, SpawnedRW}
 use Rattle.ticket_items.specs.declared.usage.Usage.TheVariants.{Input, Output}
-use Rattle.spawn.specs.Claim.{ids_of, linked_outside, claim}
+use Rattle.plain_shop.specs.Claim.{ids_of, linked_outside, claim}
 use Rattle.spawn.specs.Holdings.{claimed_ids, claims}
 use Rattle.spawn.specs.Marking.{marks}
 use Rattle.spawn.specs.Parts.{part_for}
 use Rattle.spawn.specs.Spawning.{job_after_spawn, new_record, spawn_refusal}
 use Rattle.spawn.specs.Stored.{are_apart, are_good, stands_in}
 use Rattle.spawn.specs.Table.{holder_of, spawn_with}
-use Rattle.spawn.specs.declared.tables.holder.Holder.TheVariants.{Master, Spawn}
+use Rattle.world_items.specs.declared.holder.Holder.TheVariants.{Master, Spawn}
 use Rattle.spawn.specs.declared.records.phase.Phase.TheVariants.{Out, Merged, Withdrawn}
 use Rattle.spawn.specs.declared.records.spawn_rec.SpawnRec.{SpawnRec}
 

@@ -12,7 +12,7 @@ use Rattle.ticket_items.specs.declared.node_row.NodeRow.{NodeRow}
 use Rattle.ticket_rows.specs.Place.{place_at, places}
 use Rattle.ticket_rows.specs.Ticket.{ids}
 use Rattle.ticket_tree.specs.At.{rows_below}
-use Rattle.spawn.specs.Claim.{is_claimed}
+use Rattle.plain_shop.specs.Claim.{is_claimed}
 use Rattle.spawn.specs.Table.{spawn_with}
 use Rattle.spawn.specs.declared.records.spawn_rec.SpawnRec.{SpawnRec}
 

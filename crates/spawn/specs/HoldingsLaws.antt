@@ -12,7 +12,7 @@ use Rattle.spawn.specs.Laws.{StandApart}
 use Rattle.spawn.specs.Records.{is_out}
 use Rattle.spawn.specs.Spawning.{new_record, spawn_refusal}
 use Rattle.spawn.specs.Table.{holder_of}
-use Rattle.spawn.specs.declared.tables.holder.Holder.TheVariants.{Master}
+use Rattle.world_items.specs.declared.holder.Holder.TheVariants.{Master}
 use Rattle.spawn.specs.declared.records.spawn_rec.SpawnRec.{SpawnRec}
 
 -- an edit of what the master holds changes nothing of what spawns hold

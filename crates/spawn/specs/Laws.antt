@@ -12,13 +12,13 @@ use Rattle.ticket_rows.specs.Place.{Place, below, places, place_at, row_in}
 use Rattle.ticket_rows.specs.Ticket.{Job, IsValid, has_node}
 use Rattle.ticket_items.specs.declared.edit.Edit.{Edit}
 use Rattle.ticket_items.specs.declared.node_row.NodeRow.{NodeRow}
-use Rattle.spawn.specs.Claim.{claim, ids_of, is_claimed, linked_outside}
+use Rattle.plain_shop.specs.Claim.{claim, ids_of, is_claimed, linked_outside}
 use Rattle.spawn.specs.Parts.{above, ancestors, lifted_row, part_for}
 use Rattle.ticket_tree.specs.At.{rows_below}
 use Rattle.spawn.specs.Records.{IsGood, is_out}
 use Rattle.spawn.specs.Spawning.{job_after_spawn, new_record, parent_of, spawn_refusal}
 use Rattle.spawn.specs.Table.{holder_of, holding_record, holds}
-use Rattle.spawn.specs.declared.tables.holder.Holder.TheVariants.{Master}
+use Rattle.world_items.specs.declared.holder.Holder.TheVariants.{Master}
 use Rattle.spawn.specs.declared.records.spawn_rec.SpawnRec.{SpawnRec}
 
 -- the records stand well beside the rows of a ticket: each spawn that is out is good, and no two of

@@ -1,4 +1,3 @@
-pub mod Claim
 pub mod Records
 pub mod Table
 pub mod Parts

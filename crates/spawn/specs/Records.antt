@@ -2,7 +2,7 @@
 use Rattle.std.specs.Prelude.{◌≡◌, Bool, true, false, List, map, is_some}
 use Rattle.ticket_rows.specs.Place.{named_thing, named_thing_at, node_places, places, up}
 use Rattle.ticket_items.specs.declared.node_row.NodeRow.{NodeRow}
-use Rattle.spawn.specs.Claim.{ids_of, linked_rw, linked_ro}
+use Rattle.plain_shop.specs.Claim.{ids_of, linked_rw, linked_ro}
 use Rattle.spawn.specs.declared.records.phase.Phase.{Phase}
 use Rattle.spawn.specs.declared.records.phase.Phase.TheVariants.{Out, Merged, Withdrawn}
 use Rattle.spawn.specs.declared.records.spawn_rec.SpawnRec.{SpawnRec}

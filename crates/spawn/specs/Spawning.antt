@@ -15,7 +15,7 @@ use Rattle.ticket_items.specs.declared.refusal.Refusal.{Refusal}
 use Rattle.ticket_items.specs.declared.refusal.Refusal.TheVariants.{UnknownNode, IsRoot}
 use Rattle.ticket_items.specs.declared.refusal.Refusal.TheVariants.{UnknownResource, NotLinked}
 use Rattle.ticket_items.specs.declared.refusal.Refusal.TheVariants.{NotHeld, TooManySpawns}
-use Rattle.spawn.specs.Claim.{ids_of, claim, linked_outside, linked_rw, linked_ro}
+use Rattle.plain_shop.specs.Claim.{ids_of, claim, linked_outside, linked_rw, linked_ro}
 use Rattle.spawn.specs.Parts.{resources_among}
 use Rattle.spawn.specs.Table.{holding_record}
 use Rattle.spawn.specs.declared.records.phase.Phase.TheVariants.{Out}

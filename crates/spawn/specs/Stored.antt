@@ -9,7 +9,7 @@ use Rattle.ticket_items.specs.declared.resource.Resource.{Resource}
 use Rattle.ticket_rows.specs.Homes.{has_resource}
 use Rattle.ticket_rows.specs.Place.{Place, Thing, node, resource, places, node_places, up}
 use Rattle.ticket_rows.specs.Ticket.{IsValid}
-use Rattle.spawn.specs.Claim.{ids_of, linked_rw, linked_ro}
+use Rattle.plain_shop.specs.Claim.{ids_of, linked_rw, linked_ro}
 use Rattle.spawn.specs.Laws.{StandApart}
 use Rattle.spawn.specs.Records.{is_out}
 use Rattle.spawn.specs.Table.{holds}

@@ -6,10 +6,11 @@ use Rattle.ticket_rows.specs.Homes.{home_of}
 use Rattle.ticket_rows.specs.Place.{Place, places, place_at}
 use Rattle.ticket_rows.specs.Ticket.{has_node}
 use Rattle.ticket_items.specs.declared.node_row.NodeRow.{NodeRow}
-use Rattle.spawn.specs.Claim.{is_claimed}
+use Rattle.plain_shop.specs.Claim.{is_claimed}
 use Rattle.spawn.specs.Records.{is_out}
-use Rattle.spawn.specs.declared.tables.holder.Holder.{Holder}
-use Rattle.spawn.specs.declared.tables.holder.Holder.TheVariants.{Master, Spawn}
+pub use Rattle.world_items.specs.Holder.{as_spawn, is_masters}
+use Rattle.world_items.specs.declared.holder.Holder.{Holder}
+use Rattle.world_items.specs.declared.holder.Holder.TheVariants.{Master, Spawn}
 use Rattle.spawn.specs.declared.records.spawn_rec.SpawnRec.{SpawnRec}
 
 -- the node that an id names, or in whose pool the resource is that it names
@@ -31,16 +32,6 @@ holder_at recs p = option_map_or (λ r. Spawn r.id) (holding_record recs p) Mast
 -- who holds an id. One that doesn't stand in the ticket has no holder
 abbrev pub holder_of : List NodeRow → List SpawnRec → List ℕ → Option Holder
 holder_of rows recs x = option_map (holder_at recs) (place_at (places rows) x)
-
--- whether this holder is the master
-abbrev pub is_masters : Holder → Bool
-is_masters Master = true
-is_masters (Spawn s) = false
-
--- the spawn that this holder is, if it isn't the master
-abbrev pub as_spawn : Holder → Option ℕ
-as_spawn Master = None
-as_spawn (Spawn s) = Some s
 
 -- the spawn that holds an id, if one does
 abbrev pub spawn_with : List NodeRow → List SpawnRec → List ℕ → Option ℕ

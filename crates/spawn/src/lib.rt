@@ -19,7 +19,7 @@ pub use records::standing::stand_in;
 pub use spawns::by_table::spawn_by_table;
 pub use spawns::refusing::may_spawn;
 pub use spawns::spawning::spawn;
-pub use tables::holder::Holder;
 pub use tables::holders::Holders;
 pub use tables::marking::marked;
 pub use tables::table::holder_of;
+pub use world_items::Holder;

@@ -1,4 +1,3 @@
-pub mod holder;
 pub mod holder_source;
 pub mod holders;
 pub mod holding;

@@ -7,7 +7,7 @@ use Rattle.ticket_items.specs.declared.refusal.Refusal.TheVariants.{Memory}
 use Rattle.json_profile.specs.ReadAs.{IsReadAs, IsRefusalOf}
 use Rattle.controller.specs.Step.{Step, with_state}
 use Rattle.controller.specs.declared.message.Message.{Message}
-use Rattle.controller.specs.declared.reply.Reply.{Reply}
+use Rattle.world_items.specs.declared.reply.Reply.{Reply}
 use Rattle.streams.specs.declared.refused.Refused.{Refused}
 use Rattle.stored_state.specs.Held.{GivesNothing, KeptState}
 use Rattle.stored_state.specs.Message.{IsOfMessage, message_text}

@@ -9,14 +9,14 @@ use Rattle.master_core.proofs.WhileOut.{either_so, while_out_so}
 use Rattle.master_core.specs.Master as master
 use Rattle.master_core.specs.Messages as master_messages
 use Rattle.master_core.specs.Orders as master_orders
-use Rattle.master_core.specs.declared.order.Order as master_order
-use Rattle.master_core.specs.declared.order.Order.TheVariants as order
+use Rattle.world_items.specs.declared.master_order.Order as master_order
+use Rattle.world_items.specs.declared.master_order.Order.TheVariants as order
 use Rattle.worker_core.proofs.MessageLaws.{entries_alone}
 use Rattle.worker_core.specs.Worker as worker
 use Rattle.worker_core.specs.Messages as worker_messages
 use Rattle.worker_core.specs.Orders as worker_orders
-use Rattle.worker_core.specs.declared.order.Order as worker_order
-use Rattle.worker_core.specs.declared.order.Order.TheVariants as to_worker
+use Rattle.world_items.specs.declared.worker_order.Order as worker_order
+use Rattle.world_items.specs.declared.worker_order.Order.TheVariants as to_worker
 use Rattle.master_core.specs.Messages.{take_step as taken_by_master}
 use Rattle.worker_core.specs.Messages.{take_step as taken_by_worker}
 

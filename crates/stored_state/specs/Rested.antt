@@ -15,14 +15,14 @@ use Rattle.spawn.specs.declared.records.spawn_rec.SpawnRec.{SpawnRec}
 use Rattle.master_core.specs.Master as master
 use Rattle.master_core.specs.Messages as by_master
 use Rattle.master_core.specs.Orders as of_master
-use Rattle.master_core.specs.declared.order.Order as master_order
-use Rattle.master_core.specs.declared.order.Order.TheVariants as to_master
+use Rattle.world_items.specs.declared.master_order.Order as master_order
+use Rattle.world_items.specs.declared.master_order.Order.TheVariants as to_master
 use Rattle.worker_core.specs.Messages as by_worker
 use Rattle.worker_core.specs.Orders as of_worker
 use Rattle.worker_core.specs.Worker as worker
 use Rattle.worker_core.specs.declared.entry.Entry.{Entry}
-use Rattle.worker_core.specs.declared.order.Order as worker_order
-use Rattle.worker_core.specs.declared.order.Order.TheVariants as to_worker
+use Rattle.world_items.specs.declared.worker_order.Order as worker_order
+use Rattle.world_items.specs.declared.worker_order.Order.TheVariants as to_worker
 use Rattle.stored_state.specs.Resting.{is_idle, is_idle_on, is_idle_reply}
 
 never : {P : Type 0} → false ≡ true → P

@@ -3,8 +3,8 @@ use Rattle.std.specs.Prelude.{◌&&◌, Bool, true, false, not, Result, Ok, Err}
 use Rattle.ticket_items.specs.declared.refusal.Refusal.{Refusal}
 use Rattle.controller.specs.declared.body.Body.{Body}
 use Rattle.controller.specs.declared.body.Body.TheVariants as bodies
-use Rattle.controller.specs.declared.reply.Reply.{Reply}
-use Rattle.controller.specs.declared.reply.Reply.TheVariants as replies
+use Rattle.world_items.specs.declared.reply.Reply.{Reply}
+use Rattle.world_items.specs.declared.reply.Reply.TheVariants as replies
 
 -- whether a reply tells of nothing that changes
 abbrev pub is_idle_reply : Reply → Bool

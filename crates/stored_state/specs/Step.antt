@@ -6,7 +6,7 @@ use Rattle.ticket_items.specs.declared.refusal.Refusal.{Refusal}
 pub use Rattle.controller.specs.Step.{Step}
 use Rattle.controller.specs.Step.{with_message}
 use Rattle.controller.specs.declared.message.Message.{Message}
-use Rattle.controller.specs.declared.reply.Reply.{Reply}
+use Rattle.world_items.specs.declared.reply.Reply.{Reply}
 use Rattle.json_profile.specs.ReadAs.{IsReadAs}
 use Rattle.stored_state.specs.Held.{KeptState}
 use Rattle.stored_state.specs.Message.{IsOfMessage, message_text}

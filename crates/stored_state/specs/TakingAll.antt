@@ -10,7 +10,7 @@ use Rattle.ticket_items.specs.declared.refusal.Refusal.{Refusal}
 use Rattle.ticket_items.specs.declared.refusal.Refusal.TheVariants.{Memory}
 use Rattle.controller.specs.Step.{Step}
 use Rattle.controller.specs.declared.message.Message as messages
-use Rattle.controller.specs.declared.reply.Reply.{Reply}
+use Rattle.world_items.specs.declared.reply.Reply.{Reply}
 use Rattle.stored_state.specs.Addressee.{is_addressed}
 use Rattle.stored_state.specs.AnyStep.{IsNoOrder, IsOrdered, take_step_of, text_of}
 use Rattle.stored_state.specs.Held.{FailsToSave, HoldsSame, IsNotLoaded, IsReadAs, IsRefusalOf}

@@ -8,7 +8,7 @@ use Rattle.std.specs.Prelude.{◌==◌, ◌&&◌}
 use Rattle.worker_core.specs.Messages.{aborted_entry}
 use Rattle.worker_core.specs.Orders.{finished_entry}
 use Rattle.worker_core.specs.Worker.{IsKeptEntry, closed_entry, closed_entry_in, entry_of, is_closed, is_closed_stage, is_declined, is_declined_stage, is_ended, is_ended_stage, is_open, is_open_stage, keeps_part, response_in, response_of_stage, with_entry}
-use Rattle.worker_core.specs.declared.end.End.TheVariants.{Aborted}
+use Rattle.world_items.specs.declared.end.End.TheVariants.{Aborted}
 use Rattle.worker_core.specs.declared.entry.Entry.{Entry}
 use Rattle.worker_core.specs.declared.stage.Stage.{Stage}
 use Rattle.worker_core.specs.declared.stage.Stage.TheVariants.{Open, Done, Closed, Declined}

@@ -22,8 +22,8 @@ use Rattle.ticket_rows.specs.Ticket.{IsValid, first_of, has_node, ids, ids_of, i
 use Rattle.ticket_tree.specs.Part.{PartCopy, are_ancestors_new, are_linked, are_shallow_below, edited_part, has_ancestors, is_linked, is_sound, refusal_of_part}
 use Rattle.worker_core.specs.Orders.{end_edit}
 use Rattle.worker_core.specs.Worker.{end_word, root_status}
-use Rattle.worker_core.specs.declared.end.End.{End}
-use Rattle.worker_core.specs.declared.end.End.TheVariants.{Completed, Aborted}
+use Rattle.world_items.specs.declared.end.End.{End}
+use Rattle.world_items.specs.declared.end.End.TheVariants.{Completed, Aborted}
 
 -- ---- what a change of each row keeps
 

@@ -27,11 +27,11 @@ use Rattle.worker_core.specs.Messages.{IsValidBody, abort_taking, aborted_entry,
 use Rattle.worker_core.specs.Numbers.{are_distinct_numbers, has_number}
 use Rattle.worker_core.specs.Orders.{Does, allowed_step, edit_refusal, edited_entry, end_edit, ended_part, finished_entry, order_refusal}
 use Rattle.worker_core.specs.Worker.{IsConsistent, IsKeptEntry, IsKeptPart, State, closed_entry, declined_entry, entry_of, has_ended_so, is_of, is_open, is_open_stage, keeps_part, new_entry, numbers, open_part, state}
-use Rattle.worker_core.specs.declared.end.End.TheVariants.{Aborted}
-use Rattle.worker_core.specs.declared.end.End.{End}
+use Rattle.world_items.specs.declared.end.End.TheVariants.{Aborted}
+use Rattle.world_items.specs.declared.end.End.{End}
 use Rattle.worker_core.specs.declared.entry.Entry.{Entry}
-use Rattle.worker_core.specs.declared.order.Order.{Order}
-use Rattle.worker_core.specs.declared.order.Order.TheVariants as order
+use Rattle.world_items.specs.declared.worker_order.Order.{Order}
+use Rattle.world_items.specs.declared.worker_order.Order.TheVariants as order
 use Rattle.worker_core.specs.declared.stage.Stage.{Stage}
 use Rattle.worker_core.specs.declared.stage.Stage.TheVariants.{Open, Done, Closed, Declined}
 

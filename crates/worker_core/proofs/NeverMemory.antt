@@ -17,8 +17,8 @@ use Rattle.controller.specs.Step.{refused_step}
 use Rattle.worker_core.specs.Orders as worker_orders
 use Rattle.worker_core.specs.Worker as worker
 use Rattle.worker_core.specs.declared.entry.Entry.{Entry}
-use Rattle.worker_core.specs.declared.order.Order as worker_order
-use Rattle.worker_core.specs.declared.order.Order.TheVariants as to_worker
+use Rattle.world_items.specs.declared.worker_order.Order as worker_order
+use Rattle.world_items.specs.declared.worker_order.Order.TheVariants as to_worker
 
 works : (b c d : Bool) (h : Option Refusal) → IsOther h → IsOther (first_of (unless b refusals.NotForWorkers ∷ unless c refusals.NotInPart ∷ unless d refusals.ReadOnly ∷ h ∷ []))
 works false c d h isnt = other refusals.NotForWorkers refl

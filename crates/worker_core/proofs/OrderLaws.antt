@@ -34,10 +34,10 @@ use Rattle.worker_core.proofs.Refusals.{done_free, done_order, edit_free, of_ope
 use Rattle.worker_core.specs.Laws.{EditIsOfHeld, IsNext, IsNextPart, MayChangeIsHeld, OrderKeepsEntries, ResentIsSame, ReturnIsOfEntry}
 use Rattle.worker_core.specs.Orders.{allowed_step, edit_refusal, edited_entry, end_edit, ended_part, finished_entry, is_here, order_refusal, order_step, return_of, spawn_of_order}
 use Rattle.worker_core.specs.Worker.{IsConsistent, IsKeptEntry, State, entry_of, has, is_ended, is_of, is_open_stage, may_change, open_part, root_id, with_entry}
-use Rattle.worker_core.specs.declared.end.End.{End}
+use Rattle.world_items.specs.declared.end.End.{End}
 use Rattle.worker_core.specs.declared.entry.Entry.{Entry}
-use Rattle.worker_core.specs.declared.order.Order.{Order}
-use Rattle.worker_core.specs.declared.order.Order.TheVariants as order
+use Rattle.world_items.specs.declared.worker_order.Order.{Order}
+use Rattle.world_items.specs.declared.worker_order.Order.TheVariants as order
 use Rattle.worker_core.specs.declared.stage.Stage.{Stage}
 use Rattle.worker_core.specs.declared.stage.Stage.TheVariants.{Open, Done, Closed, Declined}
 

@@ -10,7 +10,7 @@ use Rattle.worker_core.proofs.Refusals.{refused_on}
 use Rattle.worker_core.specs.Orders.{entry_refusal, order_refusal, spawn_of_order}
 use Rattle.worker_core.specs.Worker.{entry_of, is_of}
 use Rattle.worker_core.specs.declared.entry.Entry.{Entry}
-use Rattle.worker_core.specs.declared.order.Order.{Order}
+use Rattle.world_items.specs.declared.worker_order.Order.{Order}
 
 -- an order that is about no entry
 pub missing : (o : Order) (entries : List Entry) (s : ℕ) → s ≡ spawn_of_order o → position (is_of s) entries ≡ None → order_refusal o entries ≡ Some UnknownEntry

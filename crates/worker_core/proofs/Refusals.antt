@@ -18,7 +18,7 @@ use Rattle.worker_core.specs.Messages.{body_refusal, is_for_workers, take_refusa
 use Rattle.worker_core.specs.Orders.{allowed_step, edit_refusal, entry_refusal, is_here, is_to_read, order_refusal, order_step, part_edit_refusal, resend_refusal, spawn_of_order, work_refusal}
 use Rattle.worker_core.specs.Worker.{State, entry_of, is_closed, is_declined, is_open, open_part}
 use Rattle.worker_core.specs.declared.entry.Entry.{Entry}
-use Rattle.worker_core.specs.declared.order.Order.{Order}
+use Rattle.world_items.specs.declared.worker_order.Order.{Order}
 
 -- ---- the entry of an order
 

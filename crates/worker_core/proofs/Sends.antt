@@ -14,8 +14,8 @@ use Rattle.worker_core.specs.Messages.{abort_taking, decline_taking, entry_takin
 use Rattle.worker_core.specs.Orders.{allowed_step, finished_entry, order_refusal, order_step, part_return, return_of}
 use Rattle.worker_core.specs.Worker.{State, entry_of, response_of_stage}
 use Rattle.worker_core.specs.declared.entry.Entry.{Entry}
-use Rattle.worker_core.specs.declared.order.Order.{Order}
-use Rattle.worker_core.specs.declared.order.Order.TheVariants.{Edit, Finish, Resend}
+use Rattle.world_items.specs.declared.worker_order.Order.{Order}
+use Rattle.world_items.specs.declared.worker_order.Order.TheVariants.{Edit, Finish, Resend}
 use Rattle.worker_core.specs.declared.stage.Stage.{Stage}
 use Rattle.worker_core.specs.declared.stage.Stage.TheVariants.{Open, Done, Closed, Declined}
 

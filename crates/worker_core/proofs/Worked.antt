@@ -15,14 +15,14 @@ use Rattle.controller.specs.declared.body.Body.TheVariants.{Submit, Return, Abor
 use Rattle.controller.specs.declared.command.Command.TheVariants as command
 use Rattle.controller.specs.declared.message.Message.{Message}
 use Rattle.controller.specs.declared.queue_status.QueueStatus.TheVariants.{Running, Completed, Aborted}
-use Rattle.controller.specs.declared.reply.Reply.TheVariants.{Again, Acked, Noted, Taken}
-use Rattle.controller.specs.declared.reply.Reply.TheVariants as reply
+use Rattle.world_items.specs.declared.reply.Reply.TheVariants.{Again, Acked, Noted, Taken}
+use Rattle.world_items.specs.declared.reply.Reply.TheVariants as reply
 use Rattle.worker_core.specs.Messages.{take_step}
 use Rattle.worker_core.specs.Orders.{allowed_step, order_refusal}
 use Rattle.worker_core.specs.Stored.{is_worker}
 use Rattle.worker_core.specs.Worker.{State, may_change, state}
-use Rattle.worker_core.specs.declared.end.End.TheVariants as end
-use Rattle.worker_core.specs.declared.order.Order.TheVariants.{Edit, Finish, Resend}
+use Rattle.world_items.specs.declared.end.End.TheVariants as end
+use Rattle.world_items.specs.declared.worker_order.Order.TheVariants.{Edit, Finish, Resend}
 use Rattle.worker_core.specs.declared.stage.Stage.TheVariants.{Open, Done, Closed}
 use Rattle.worker_core.specs.declared.stage.Stage.TheVariants as stage
 

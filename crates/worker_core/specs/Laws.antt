@@ -11,16 +11,16 @@ use Rattle.controller.specs.declared.body.Body.{Body}
 use Rattle.controller.specs.declared.body.Body.TheVariants.{Abort, Answer, Submit}
 use Rattle.controller.specs.declared.command.Command.{Command}
 use Rattle.controller.specs.declared.message.Message.{Message}
-use Rattle.controller.specs.declared.reply.Reply.TheVariants as reply
+use Rattle.world_items.specs.declared.reply.Reply.TheVariants as reply
 use Rattle.worker_core.specs.Messages.{IsValidBody, aborted_entry, again_reply, take_refusal}
 use Rattle.worker_core.specs.Messages.{take_step}
 use Rattle.worker_core.specs.Orders.{order_refusal, order_step, return_of, spawn_of_order}
 use Rattle.worker_core.specs.Worker.{IsConsistent, State, closed_entry, entry_of, has, is_open}
 use Rattle.worker_core.specs.Worker.{is_declined, is_ended, may_change, response_of_stage}
-use Rattle.worker_core.specs.declared.end.End.{End}
+use Rattle.world_items.specs.declared.end.End.{End}
 use Rattle.worker_core.specs.declared.entry.Entry.{Entry}
-use Rattle.worker_core.specs.declared.order.Order.{Order}
-use Rattle.worker_core.specs.declared.order.Order.TheVariants as order
+use Rattle.world_items.specs.declared.worker_order.Order.{Order}
+use Rattle.world_items.specs.declared.worker_order.Order.TheVariants as order
 use Rattle.worker_core.specs.declared.stage.Stage.TheVariants.{Open}
 
 -- ---- what may be changed

@@ -17,9 +17,9 @@ use Rattle.controller.specs.declared.command.Command.{Command}
 use Rattle.controller.specs.declared.command.Command.TheVariants as command
 use Rattle.controller.specs.declared.message.Message.{Message}
 use Rattle.controller.specs.declared.queue_status.QueueStatus.{QueueStatus}
-use Rattle.controller.specs.declared.reply.Reply.{Reply}
-use Rattle.controller.specs.declared.reply.Reply.TheVariants as reply
-use Rattle.worker_core.specs.declared.end.End.TheVariants as end
+use Rattle.world_items.specs.declared.reply.Reply.{Reply}
+use Rattle.world_items.specs.declared.reply.Reply.TheVariants as reply
+use Rattle.world_items.specs.declared.end.End.TheVariants as end
 use Rattle.worker_core.specs.declared.entry.Entry.{Entry}
 use Rattle.worker_core.specs.Orders.{finished_entry}
 use Rattle.worker_core.specs.Worker.{State, closed_entry, declined_entry, entry_of, is_declined}

@@ -20,20 +20,15 @@ use Rattle.controller.specs.Step.{Makes, Step, unless_refused}
 use Rattle.controller.specs.declared.body.Body.TheVariants.{Return}
 use Rattle.controller.specs.declared.done.Done.{Done}
 use Rattle.controller.specs.declared.message.Message.{Message}
-use Rattle.controller.specs.declared.reply.Reply.TheVariants as reply
-use Rattle.worker_core.specs.declared.end.End.{End}
+use Rattle.world_items.specs.declared.reply.Reply.TheVariants as reply
+pub use Rattle.world_items.specs.WorkerOrder.{spawn_of_order}
+use Rattle.world_items.specs.declared.end.End.{End}
 use Rattle.worker_core.specs.declared.entry.Entry.{Entry}
-use Rattle.worker_core.specs.declared.order.Order.{Order}
-use Rattle.worker_core.specs.declared.order.Order.TheVariants as order
+use Rattle.world_items.specs.declared.worker_order.Order.{Order}
+use Rattle.world_items.specs.declared.worker_order.Order.TheVariants as order
 use Rattle.worker_core.specs.declared.stage.Stage.TheVariants as stages
 use Rattle.worker_core.specs.Worker.{State, end_word, entry_of, is_closed, is_declined, is_open}
 use Rattle.worker_core.specs.Worker.{open_part, root_id, with_entry}
-
--- the spawn that an order is about
-abbrev pub spawn_of_order : Order → ℕ
-spawn_of_order (order.Edit s e) = s
-spawn_of_order (order.Finish s how) = s
-spawn_of_order (order.Resend s) = s
 
 -- ---- refusals
 

@@ -1,6 +1,6 @@
 -- A worker: the parts that it took and hasn't given up, the spawns that it declined, and what of
 -- the parts it may change.
-use Rattle.std.specs.Prelude.{◌≡◌, ℕ, ◌==◌, ◌||◌, Bool, true, false, List, [], codes, map}
+use Rattle.std.specs.Prelude.{◌≡◌, ℕ, ◌==◌, ◌||◌, Bool, true, false, List, [], map}
 use Rattle.std.specs.Prelude.{if◌then◌else◌, slice_get, Option, Some, None, is_some, IfSome}
 use Rattle.std.specs.Prelude.{Result, Ok, Err}
 use Rattle.std.specs.List.{All, find}
@@ -15,8 +15,9 @@ use Rattle.ticket_rows.specs.Ticket.{IsValid, ids}
 use Rattle.ticket_tree.specs.Part.{PartCopy, is_sound}
 use Rattle.controller.specs.declared.queue_status.QueueStatus.{QueueStatus}
 use Rattle.controller.specs.declared.queue_status.QueueStatus.TheVariants as queue
-use Rattle.worker_core.specs.declared.end.End.{End}
-use Rattle.worker_core.specs.declared.end.End.TheVariants.{Completed, Aborted}
+pub use Rattle.world_items.specs.End.{end_word}
+use Rattle.world_items.specs.declared.end.End.{End}
+use Rattle.world_items.specs.declared.end.End.TheVariants.{Completed, Aborted}
 use Rattle.worker_core.specs.declared.entry.Entry.{Entry}
 use Rattle.worker_core.specs.declared.stage.Stage.{Stage}
 use Rattle.worker_core.specs.declared.stage.Stage.TheVariants.{Open, Done, Closed, Declined}
@@ -78,11 +79,6 @@ response_of_stage Open = Ok queue.Running
 response_of_stage (Done how) = Ok (status_of_end how)
 response_of_stage (Closed how) = Ok (status_of_end how)
 response_of_stage Declined = Err (number_of refusals.Declined)
-
--- the Status of the node of a part whose work ended so
-abbrev pub end_word : End → List ℕ
-end_word Completed = codes "Completed"
-end_word Aborted = codes "Aborted"
 
 -- ---- entries
 

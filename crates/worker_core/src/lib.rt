@@ -2,11 +2,9 @@
 #![tactic(auto)]
 
 mod edits;
-mod end;
 mod entries;
 mod entry;
 pub mod laws;
-mod order;
 mod ordering;
 mod stage;
 mod stored;
@@ -14,8 +12,8 @@ mod taking;
 mod worker;
 mod worker_controller;
 
-pub use end::End;
 pub use entry::Entry;
-pub use order::Order;
 pub use stage::Stage;
 pub use worker::Worker;
+pub use world_items::End;
+pub use world_items::worker_order::Order;

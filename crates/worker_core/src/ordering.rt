@@ -11,14 +11,14 @@ ghost use Rattle.worker_core.specs.Orders as orders;
 ghost use Rattle.worker_core.specs.Worker as worker;
 
 use crate::edits;
-use crate::end::End;
 use crate::entries::Entries;
 use crate::entry::Entry;
-use crate::order::Order;
 use crate::stage::Stage;
 use controller::{Body, Done, Message, Reply};
 use std::alloc::{AllocError, Global};
 use ticket_tree::{Duplicate, Edit, Id, Name, Part, Refusal, SpawnId};
+use world_items::End;
+use world_items::worker_order::Order;
 
 /// Why the part of an entry isn't given back once more: it is open, or was given up.
 fn resend_refusal(entry: &Entry) -> Option<Refusal>

@@ -1,6 +1,9 @@
-use crate::end::End;
+ghost use Rattle.std.specs.Prelude.{◌≡◌};
+ghost use Rattle.worker_core.specs.Worker as worker;
+
 use controller::QueueStatus;
 use ticket_tree::Refusal;
+use world_items::End;
 
 /// How far a worker is with a part.
 #[derive(Clone, Copy, PartialEq, Eq)]
@@ -16,9 +19,6 @@ pub enum Stage {
 }
 
 impl Stage {
-    ghost use Rattle.std.specs.Prelude.{◌≡◌};
-    ghost use Rattle.worker_core.specs.Worker as worker;
-
     /// Whether the part may be changed.
     pub fn is_open(self) -> bool
         // Proved: An entry tells whether it is open, whether it was declined, and what a command
@@ -69,8 +69,18 @@ impl Stage {
     {
         match self {
             Stage::Open => Ok(QueueStatus::Running),
-            Stage::Done(end) | Stage::Closed(end) => Ok(end.status()),
+            Stage::Done(end) | Stage::Closed(end) => Ok(status_of(end)),
             Stage::Declined => Err(Refusal::Declined.number()),
         }
+    }
+}
+
+/// The Status of the queue entry of a part whose work ended so.
+fn status_of(end: End) -> QueueStatus
+    ensures { result ≡ worker.status_of_end end }
+{
+    match end {
+        End::Completed => QueueStatus::Completed,
+        End::Aborted => QueueStatus::Aborted,
     }
 }

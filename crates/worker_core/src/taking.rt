@@ -9,7 +9,6 @@ ghost use Rattle.controller.specs.Step as steps;
 ghost use Rattle.worker_core.specs.Messages as messages;
 ghost use Rattle.worker_core.specs.Worker as worker;
 
-use crate::end::End;
 use crate::entries::Entries;
 use crate::entry::Entry;
 use crate::ordering::end_entry;
@@ -18,6 +17,7 @@ use controller::answering::outcome_of;
 use controller::{Body, Command, Message, Outcome, QueueStatus, Reply, Taken};
 use std::alloc::{AllocError, Global};
 use ticket_tree::{Id, Part, Refusal, SpawnId};
+use world_items::End;
 
 /// Whether a message is one for a worker.
 fn is_for_workers(body: &Body) -> bool

@@ -1,6 +1,5 @@
 use crate::entries::Entries;
 use crate::entry::Entry;
-use crate::order::Order;
 use crate::ordering::do_order;
 use crate::stored::are_parts;
 use crate::taking::{do_take, taken_as};
@@ -8,6 +7,7 @@ use controller::{Body, Done, Message, Outcome, Taken};
 use std::alloc::{AllocError, Global};
 use std::marker::Model;
 use ticket_tree::{Id, Refusal, SpawnId};
+use world_items::worker_order::Order;
 
 /// A controller that works on parts of another's ticket, which is its master (JDF 1.5, 4.4). It
 /// keeps each part that it takes, in the order in which they come, until it was given back and has

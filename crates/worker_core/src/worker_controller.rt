@@ -1,8 +1,8 @@
-use crate::order::Order;
 use crate::worker::Worker;
 use controller::{Controller, Done, Message, Outcome};
 use std::alloc::{AllocError, Global};
 use ticket_tree::{Id, Refusal};
+use world_items::worker_order::Order;
 
 impl Controller for Worker {
     ghost use Rattle.worker_core.specs.Messages as messages;

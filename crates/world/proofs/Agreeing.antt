@@ -2,11 +2,11 @@
 use Rattle.controller.specs.declared.message.Message.{Message}
 use Rattle.world.specs.Controllers.{Controllers}
 use Rattle.world.specs.Running as running
-use Rattle.world.specs.Shop.{PlainState}
-use Rattle.world.specs.ShopSteps.{Tag}
+use Rattle.plain_shop.specs.Shop.{PlainState}
+use Rattle.plain_shop.specs.Steps.{Tag}
 use Rattle.world.specs.Showing.{shop_shown, tag_of}
 use Rattle.controller.specs.Step.{Step}
-use Rattle.world.specs.Step.{StepOrWord}
+use Rattle.plain_shop.specs.Step.{StepOrWord}
 
 -- they reply the same, send the same, and lead to the same
 abbrev pub Agrees : Step Controllers Message → Step PlainState Tag → Type 0

@@ -22,7 +22,7 @@ use Rattle.master_core.proofs.Recorded.{number_is}
 use Rattle.master_core.specs.Master as master
 use Rattle.master_core.specs.Messages as master_messages
 use Rattle.master_core.specs.Orders as master_orders
-use Rattle.master_core.specs.declared.order.Order as master_order
+use Rattle.world_items.specs.declared.master_order.Order as master_order
 use Rattle.worker_core.proofs.AtNumber.{find-at_number, find-behind, found_holds}
 use Rattle.worker_core.proofs.Closing.{aborted_is_shut, aborted_number}
 use Rattle.worker_core.proofs.Kept as worker_kept
@@ -31,7 +31,7 @@ use Rattle.worker_core.specs.Messages as worker_messages
 use Rattle.worker_core.specs.Orders as worker_orders
 use Rattle.worker_core.specs.Worker as worker
 use Rattle.worker_core.specs.declared.entry.Entry.{Entry}
-use Rattle.worker_core.specs.declared.order.Order as worker_order
+use Rattle.world_items.specs.declared.worker_order.Order as worker_order
 use Rattle.world.proofs.EndedEntries.{ordered_back, returned_back}
 use Rattle.world.proofs.MessagesTaken.{master_refuses_nothing, returned_in, returned_told, worker_refuses_nothing}
 use Rattle.world.proofs.Kept.{Keeps, master_stored, settled_kept, worker_stored}

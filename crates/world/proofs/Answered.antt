@@ -1,7 +1,7 @@
 -- What holds of a result holds as more is known.
 use Rattle.std.proofs.Common.{◌≡◌, List, Option, Some, None, IfOk, IfSome, IsErr, Result, Ok, Err, OnOk, OnErr, refl, subst, sym}
 use Rattle.std.proofs.lemmas.Bool.{true≢false}
-use Rattle.world.specs.Settling.{messages_left, state_left, with_sent}
+use Rattle.plain_shop.specs.Settling.{messages_left, state_left, with_sent}
 use Rattle.world_items.specs.declared.stop.Stop.{Stop}
 use Rattle.world_items.specs.declared.stop.Stop.TheVariants.{Run, BeforeSave, BeforeSend}
 

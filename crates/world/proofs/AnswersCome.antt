@@ -10,7 +10,7 @@ use Rattle.controller.specs.declared.command.Command.{Command}
 use Rattle.controller.specs.declared.command.Command.TheVariants as command
 use Rattle.controller.specs.declared.message.Message.{Message}
 use Rattle.controller.specs.declared.queue_status.QueueStatus.{QueueStatus}
-use Rattle.controller.specs.declared.reply.Reply.TheVariants as reply
+use Rattle.world_items.specs.declared.reply.Reply.TheVariants as reply
 use Rattle.spawn.specs.Records.{is_out}
 use Rattle.spawn.specs.declared.records.phase.Phase.TheVariants as recorded
 use Rattle.master_core.specs.Master as master
@@ -32,10 +32,10 @@ use Rattle.world.proofs.TakenSpawns.{HasRecord, entry_record, merged_of}
 use Rattle.world.proofs.WorkerEdits.{changed_stored}
 use Rattle.world.specs.Controllers.{worker_of}
 use Rattle.world.specs.Messages.{IsInOrder, entry_for}
-use Rattle.world.specs.Shop as plain
-use Rattle.world.specs.ShopActs as acts
-use Rattle.world.specs.ShopSteps as shop
-use Rattle.world.specs.ShopSteps.{quiet_step}
+use Rattle.plain_shop.specs.Shop as plain
+use Rattle.plain_shop.specs.Acts as acts
+use Rattle.plain_shop.specs.Steps as shop
+use Rattle.plain_shop.specs.Steps.{quiet_step}
 use Rattle.world.specs.Showing.{phase_shown, shop_shown, spawn_shown, tag_of}
 use Rattle.world.specs.State.{IsConsistent, State}
 use Rattle.controller.specs.Step.{Step, message_step}

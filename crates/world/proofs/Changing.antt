@@ -8,14 +8,14 @@ use Rattle.ticket_rows.proofs.AtHome.{find-passes}
 use Rattle.ticket_rows.specs.Place.{Place, place_at, places}
 use Rattle.ticket_tree.specs.Part.{PartCopy}
 use Rattle.spawn.proofs.Lawful.{claim_is_held, held_is_claimed, placed}
-use Rattle.spawn.specs.Claim.{is_claimed}
+use Rattle.plain_shop.specs.Claim.{is_claimed}
 use Rattle.spawn.specs.Records.{is_out, is_out_phase}
 use Rattle.spawn.specs.Table.{holder_at, holding_record, holds, is_masters}
 use Rattle.spawn.specs.declared.records.phase.Phase as records
 use Rattle.spawn.specs.declared.records.phase.Phase.TheVariants as recorded
 use Rattle.spawn.specs.declared.records.spawn_rec.SpawnRec.{SpawnRec}
-use Rattle.spawn.specs.declared.tables.holder.Holder.{Holder}
-use Rattle.spawn.specs.declared.tables.holder.Holder.TheVariants.{Master, Spawn}
+use Rattle.world_items.specs.declared.holder.Holder.{Holder}
+use Rattle.world_items.specs.declared.holder.Holder.TheVariants.{Master, Spawn}
 use Rattle.spawn.proofs.SoundPart.{true_by}
 use Rattle.merge.specs.Shape.{Fits}
 use Rattle.master_core.proofs.Recorded.{number_is}
@@ -39,7 +39,7 @@ use Rattle.world.specs.Controllers.{entry_at, is_named, worker_of}
 use Rattle.world.specs.Happening.{IsUnknown, after_all, next_state, step_of}
 use Rattle.world.specs.Laws.{HoldersMayChange, NoTwoMayChangeOne}
 use Rattle.world.specs.Messages.{AreRecorded, HasComeBack, IsBack, IsRecorded, entry_for}
-use Rattle.world.specs.Shop.{Closed, Declined, Done, Merged, Open, SpawnState, spawn_of}
+use Rattle.plain_shop.specs.Shop.{Closed, Declined, Done, Merged, Open, SpawnState, spawn_of}
 use Rattle.world.specs.Showing.{phase_shown, shop_shown, shows, spawn_shown}
 use Rattle.world.specs.State.{IsConsistent, State}
 use Rattle.world_items.specs.declared.event.Event.{Event}

@@ -24,8 +24,8 @@ use Rattle.master_core.proofs.Recorded.{phase_if, phase_or}
 use Rattle.master_core.specs.Master.{IsNumbered, State, is_of, record_of, with_phase}
 use Rattle.master_core.specs.Messages.{take_step}
 use Rattle.master_core.specs.Orders.{allowed_step}
-use Rattle.master_core.specs.declared.order.Order.{Order}
-use Rattle.master_core.specs.declared.order.Order.TheVariants as order
+use Rattle.world_items.specs.declared.master_order.Order.{Order}
+use Rattle.world_items.specs.declared.master_order.Order.TheVariants as order
 use Rattle.worker_core.proofs.Closing.{closed_declined, closed_ended, declined_shut, ended_shut}
 use Rattle.worker_core.specs.Worker.{closed_entry, is_declined, is_declined_stage, is_open, response_of_stage}
 use Rattle.worker_core.specs.declared.entry.Entry.{Entry}

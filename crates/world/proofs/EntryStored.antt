@@ -7,8 +7,8 @@ use Rattle.std.specs.Str.{bytes_eq}
 use Rattle.ticket_rows.specs.Place.{Row}
 use Rattle.ticket_tree.specs.PartView.{part_row}
 use Rattle.spawn.specs.declared.records.spawn_rec.SpawnRec.{SpawnRec}
-use Rattle.spawn.specs.declared.tables.holder.Holder.{Holder}
-use Rattle.spawn.specs.declared.tables.holder.Holder.TheVariants as held_by
+use Rattle.world_items.specs.declared.holder.Holder.{Holder}
+use Rattle.world_items.specs.declared.holder.Holder.TheVariants as held_by
 use Rattle.master_core.proofs.Recorded.{number_is}
 use Rattle.master_core.specs.Master.{IsNumbered, holder, record_of}
 use Rattle.worker_core.specs.Worker as worker
@@ -21,8 +21,8 @@ use Rattle.world.proofs.TakenSpawns.{only_record}
 use Rattle.world.proofs.WorkerSteps.{with_next}
 use Rattle.world.specs.Controllers.{Controllers, entry_at, with_worker, worker_of}
 use Rattle.world.specs.Messages.{entry_for}
-use Rattle.world.specs.Shop.{Phase, SpawnState, has_number}
-use Rattle.world.specs.ShopActs.{in_phase}
+use Rattle.plain_shop.specs.Shop.{Phase, SpawnState, has_number}
+use Rattle.plain_shop.specs.Acts.{in_phase}
 use Rattle.world.specs.Showing.{entry_of_spawn, phase_shown, row_at, seen_shown, shop_shown, spawn_shown}
 
 -- the entry of one spawn is another at the worker of a name: its spawn has a record, which names the worker, and all other entries are as they were

@@ -11,11 +11,11 @@ use Rattle.controller.specs.declared.body.Body.{Body}
 use Rattle.controller.specs.declared.body.Body.TheVariants.{Abort, Answer, Return, Submit}
 use Rattle.controller.specs.declared.command.Command.TheVariants as command
 use Rattle.controller.specs.declared.message.Message.{Message}
-use Rattle.master_core.specs.declared.order.Order as master_order
-use Rattle.master_core.specs.declared.order.Order.TheVariants as to_master
+use Rattle.world_items.specs.declared.master_order.Order as master_order
+use Rattle.world_items.specs.declared.master_order.Order.TheVariants as to_master
 use Rattle.worker_core.specs.Worker as worker
-use Rattle.worker_core.specs.declared.order.Order as worker_order
-use Rattle.worker_core.specs.declared.order.Order.TheVariants as to_worker
+use Rattle.world_items.specs.declared.worker_order.Order as worker_order
+use Rattle.world_items.specs.declared.worker_order.Order.TheVariants as to_worker
 use Rattle.world.proofs.Agreeing.{Agrees, StepsAgree}
 use Rattle.world.proofs.AlwaysKept.{kept_after, message_there}
 use Rattle.world.proofs.AnswersCome.{return_is_answered, submit_is_answered}
@@ -38,13 +38,13 @@ use Rattle.stored_state.specs.declared.cause.StepInput.TheVariants as causes
 use Rattle.world.specs.Happening as world
 use Rattle.world.specs.Laws.{EventsAreReplayed}
 use Rattle.world.specs.Messages.{IsInOrder}
-use Rattle.world.specs.Replay as replay
+use Rattle.plain_shop.specs.Replay as replay
 use Rattle.world.specs.Running.{IsShownBy}
-use Rattle.world.specs.Shop.{PlainState}
-use Rattle.world.specs.ShopSteps as shop
+use Rattle.plain_shop.specs.Shop.{PlainState}
+use Rattle.plain_shop.specs.Steps as shop
 use Rattle.world.specs.Showing.{shop_shown, shows, tag_in, tag_of}
 use Rattle.world.specs.State.{IsConsistent, State, message_at}
-use Rattle.world.specs.Step.{StepOrWord}
+use Rattle.plain_shop.specs.Step.{StepOrWord}
 use Rattle.master_core.specs.Orders.{order_step as ordered_master}
 use Rattle.worker_core.specs.Orders.{order_step as ordered_worker}
 use Rattle.worker_core.specs.Messages.{take_step as taken_by_worker}

@@ -4,18 +4,18 @@ use Rattle.std.proofs.lemmas.Bool.{eq-eqb, eqb-true, true≢false}
 use Rattle.std.specs.Option.{option_map, option_map_or}
 use Rattle.ticket_rows.specs.Place.{Place, place_at, places}
 use Rattle.spawn.proofs.Lawful.{claim_is_held, held_is_claimed, placed}
-use Rattle.spawn.specs.Claim.{is_claimed}
+use Rattle.plain_shop.specs.Claim.{is_claimed}
 use Rattle.spawn.specs.Records.{IsGood, is_out}
 use Rattle.spawn.specs.Table.{holder_at, holding_record, holds}
 use Rattle.spawn.specs.declared.records.spawn_rec.SpawnRec.{SpawnRec}
-use Rattle.spawn.specs.declared.tables.holder.Holder.{Holder}
-use Rattle.spawn.specs.declared.tables.holder.Holder.TheVariants.{Master, Spawn}
+use Rattle.world_items.specs.declared.holder.Holder.{Holder}
+use Rattle.world_items.specs.declared.holder.Holder.TheVariants.{Master, Spawn}
 use Rattle.master_core.proofs.Recorded.{number_is}
 use Rattle.master_core.specs.Master.{IsConsistent, State, holder, is_of, record_of}
 use Rattle.world.proofs.EndedEntries.{one_record}
 use Rattle.world.proofs.Cases.{same_test}
 use Rattle.world.proofs.PartHolds.{claims}
-use Rattle.world.specs.ShopActs.{is_held_by, is_spawn}
+use Rattle.plain_shop.specs.Acts.{is_held_by, is_spawn}
 
 -- a record that is out is good
 pub good_record : (m : State) (s : ℕ) (r : SpawnRec) → IsConsistent m → record_of m.records s ≡ Some r → is_out r ≡ true → IsGood m.ticket.rows r

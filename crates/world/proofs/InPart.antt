@@ -16,7 +16,7 @@ use Rattle.spawn.proofs.PartShows.{out_of_claim, stands_below}
 use Rattle.spawn.proofs.RowsBelow.{rows_below-around}
 use Rattle.spawn.proofs.Split.{Around, around}
 use Rattle.spawn.proofs.Standing.{ids_apart, named}
-use Rattle.spawn.specs.Claim.{is_claimed, is_linked_below, is_linked_outside}
+use Rattle.plain_shop.specs.Claim.{is_claimed, is_linked_below, is_linked_outside}
 use Rattle.spawn.specs.Parts.{above, part_for, resources, resources_among}
 use Rattle.ticket_tree.specs.At.{rows_below}
 use Rattle.spawn.specs.Records.{IsGood}

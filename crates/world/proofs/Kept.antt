@@ -17,7 +17,7 @@ use Rattle.world.proofs.WorkerSteps.{with_next}
 use Rattle.world.specs.Controllers.{Controllers}
 use Rattle.world.specs.Happening.{next_state}
 use Rattle.world.specs.Messages.{AreInOrder, AreRecorded, HasComeBack, IsInOrder, IsRecorded}
-use Rattle.world.specs.Settling.{messages_left, state_left, with_sent}
+use Rattle.plain_shop.specs.Settling.{messages_left, state_left, with_sent}
 use Rattle.world.specs.State.{IsConsistent, State, state}
 use Rattle.controller.specs.Step.{Step}
 use Rattle.world.specs.Stepping.{master_moved}

@@ -12,7 +12,7 @@ use Rattle.ticket_items.specs.declared.spawn_status.SpawnStatus.TheVariants.{Spa
 use Rattle.ticket_rows.specs.Place.{Place, Thing, named_thing, named_thing_at, nodes_in, places, resources_in}
 use Rattle.spawn.proofs.Tests.{any_mapped}
 use Rattle.spawn.proofs.Chosen.{filter_as, filter_twice}
-use Rattle.spawn.specs.Claim.{ids_of, linked_ro}
+use Rattle.plain_shop.specs.Claim.{ids_of, linked_ro}
 use Rattle.spawn.specs.Laws.{StandApart}
 use Rattle.spawn.specs.Marking.{copies, copies_rw, in_order, mark, put_in, records_out}
 use Rattle.spawn.specs.Records as records
@@ -23,8 +23,8 @@ use Rattle.world.proofs.TakenSpawns.{out_shown}
 use Rattle.world.specs.Controllers.{Controllers}
 use Rattle.world.specs.Laws.{MarksAreShown}
 use Rattle.world.specs.Messages.{entry_for}
-use Rattle.world.specs.Shop.{SpawnState, is_out}
-use Rattle.world.specs.ShopMarks.{shop_mark, spawns_out, takes, takes_rw}
+use Rattle.plain_shop.specs.Shop.{SpawnState, is_out}
+use Rattle.plain_shop.specs.Marks.{shop_mark, spawns_out, takes, takes_rw}
 use Rattle.world.specs.Showing.{phase_shown, shop_shown, spawn_shown}
 use Rattle.world.specs.State.{IsConsistent, State}
 

@@ -26,25 +26,25 @@ use Rattle.spawn.proofs.EditKeeps.{edit_keeps_claims}
 use Rattle.spawn.proofs.HoldingsEdited.{IsOld, holder_stays, new_nowhere}
 use Rattle.spawn.proofs.Lawful.{held_is_claimed, placed}
 use Rattle.spawn.proofs.Outside.{some_of}
-use Rattle.spawn.specs.Claim.{is_claimed}
+use Rattle.plain_shop.specs.Claim.{is_claimed}
 use Rattle.spawn.specs.Laws.{StandApart}
 use Rattle.spawn.specs.Table.{holder_at, holder_of, holding_record, holds}
 use Rattle.spawn.specs.declared.records.spawn_rec.SpawnRec.{SpawnRec}
-use Rattle.spawn.specs.declared.tables.holder.Holder.{Holder}
-use Rattle.spawn.specs.declared.tables.holder.Holder.TheVariants.{Master, Spawn}
+use Rattle.world_items.specs.declared.holder.Holder.{Holder}
+use Rattle.world_items.specs.declared.holder.Holder.TheVariants.{Master, Spawn}
 use Rattle.spawn.proofs.SoundPart.{false_by}
 use Rattle.master_core.proofs.Refusals.{IsFree, edit_free}
 use Rattle.master_core.specs.Master.{State as MasterState, holder}
 use Rattle.master_core.specs.Orders as orders
-use Rattle.master_core.specs.declared.order.Order.TheVariants as order
+use Rattle.world_items.specs.declared.master_order.Order.TheVariants as order
 use Rattle.ticket_tree.specs.PartView.{part_row}
 use Rattle.world.proofs.Agreeing.{Agrees}
 use Rattle.world.proofs.MasterSteps.{with_master}
 use Rattle.world.proofs.ShopPaths.{same_shop}
 use Rattle.world.specs.Controllers.{Controllers}
-use Rattle.world.specs.Shop.{PlainState, Rows}
-use Rattle.world.specs.ShopActs.{after_edit, with_new}
-use Rattle.world.specs.ShopSteps.{Tag, edit_refusal, master_does}
+use Rattle.plain_shop.specs.Shop.{PlainState, Rows}
+use Rattle.plain_shop.specs.Acts.{after_edit, with_new}
+use Rattle.plain_shop.specs.Steps.{Tag, edit_refusal, master_does}
 use Rattle.world.specs.Showing.{now_shown, part_of_spawn, row_at, shop_shown}
 use Rattle.world.specs.State.{IsConsistent, State}
 use Rattle.controller.specs.Step.{Step, unless_refused}

@@ -34,15 +34,15 @@ use Rattle.spawn.proofs.Outside.{some_of}
 use Rattle.spawn.proofs.PartKept.{allowed}
 use Rattle.ticket_tree.proofs.Parents.{one_parent_each}
 use Rattle.ticket_tree.specs.Laws.{HasParentAt, IsRootAt}
-use Rattle.spawn.specs.Claim.{claim, ids_of, is_claimed, linked_outside, linked_ro}
+use Rattle.plain_shop.specs.Claim.{claim, ids_of, is_claimed, linked_outside, linked_ro}
 use Rattle.spawn.specs.Records.{is_out}
 use Rattle.spawn.specs.Spawning as spawning
 use Rattle.spawn.specs.Spawning.{parent_of}
 use Rattle.spawn.specs.Table.{holder_at, holding_record, holds}
 use Rattle.spawn.specs.declared.records.phase.Phase.TheVariants as recorded
 use Rattle.spawn.specs.declared.records.spawn_rec.SpawnRec.{SpawnRec}
-use Rattle.spawn.specs.declared.tables.holder.Holder.{Holder}
-use Rattle.spawn.specs.declared.tables.holder.Holder.TheVariants.{Master, Spawn}
+use Rattle.world_items.specs.declared.holder.Holder.{Holder}
+use Rattle.world_items.specs.declared.holder.Holder.TheVariants.{Master, Spawn}
 use Rattle.master_core.proofs.OrderKept.{ordered_kept}
 use Rattle.master_core.proofs.Recorded.{found_last, get_front, get_last, number_is}
 use Rattle.master_core.proofs.Refusals.{spawn_free}
@@ -50,8 +50,8 @@ use Rattle.master_core.specs.Master as master
 use Rattle.master_core.specs.Master.{IsNumbered, holder, is_of, record_of}
 use Rattle.master_core.specs.Orders as orders
 use Rattle.master_core.specs.Orders.{held_refusal, next_record}
-use Rattle.master_core.specs.declared.order.Order.TheVariants as order
-use Rattle.controller.specs.declared.reply.Reply.TheVariants as reply
+use Rattle.world_items.specs.declared.master_order.Order.TheVariants as order
+use Rattle.world_items.specs.declared.reply.Reply.TheVariants as reply
 use Rattle.worker_core.specs.declared.entry.Entry.{Entry}
 use Rattle.world.proofs.Agreeing.{Agrees}
 use Rattle.world.proofs.MessagesTaken.{entry_recorded}
@@ -61,10 +61,10 @@ use Rattle.world.proofs.ShopPaths.{same_shop}
 use Rattle.world.proofs.Stored.{and_found}
 use Rattle.world.specs.Controllers.{Controllers, entry_at}
 use Rattle.world.specs.Messages.{AreRecorded, entry_for}
-use Rattle.world.specs.Shop as shop
-use Rattle.world.specs.Shop.{Away, Rows, SpawnState}
-use Rattle.world.specs.ShopActs.{after_spawn, next_spawn, spawned_audit, with_claim, with_parent_audit}
-use Rattle.world.specs.ShopSteps.{Submit, master_does, spawn_refusal}
+use Rattle.plain_shop.specs.Shop as shop
+use Rattle.plain_shop.specs.Shop.{Away, Rows, SpawnState}
+use Rattle.plain_shop.specs.Acts.{after_spawn, next_spawn, spawned_audit, with_claim, with_parent_audit}
+use Rattle.plain_shop.specs.Steps.{Submit, master_does, spawn_refusal}
 use Rattle.world.specs.Showing.{entry_of_spawn, now_shown, part_of_spawn, phase_shown, row_at, seen_shown, shop_shown, spawn_shown}
 use Rattle.world.specs.State.{IsConsistent, State}
 use Rattle.master_core.specs.Orders.{order_step as ordered_master}

@@ -16,8 +16,8 @@ use Rattle.master_core.proofs.Refusals.{done_order}
 use Rattle.master_core.specs.Master.{IsConsistent, State, is_of, merged_record, next_number, record_of, withdrawn_record}
 use Rattle.master_core.specs.Messages.{IsValidBody, take_step}
 use Rattle.master_core.specs.Orders.{abort_of, allowed_step, order_refusal, spawn_sent, submit_of}
-use Rattle.master_core.specs.declared.order.Order.{Order}
-use Rattle.master_core.specs.declared.order.Order.TheVariants as order
+use Rattle.world_items.specs.declared.master_order.Order.{Order}
+use Rattle.world_items.specs.declared.master_order.Order.TheVariants as order
 use Rattle.world.proofs.StaysLater.{AreLater}
 use Rattle.stored_state.specs.Names.{ordered_names, taken_by_master_names}
 use Rattle.world.proofs.PartsGoOut.{part_is_valid}

@@ -13,9 +13,9 @@ use Rattle.ticket_items.specs.Edit.{added_id}
 use Rattle.ticket_rows.specs.Place.{Place, Row, nodes_in, resource_row, up}
 use Rattle.ticket_tree.specs.PlainEdit.{plain_changed, plain_rows, with_row_changed}
 use Rattle.world.proofs.MasterSpawns.{with_told}
-use Rattle.world.specs.MergeAudits.{AuditsGrow, audit_tells, audits_of}
-use Rattle.world.specs.Shop.{Rows}
-use Rattle.world.specs.ShopActs.{with_parent_audit}
+use Rattle.plain_shop.specs.MergeAudits.{AuditsGrow, audit_tells, audits_of}
+use Rattle.plain_shop.specs.Shop.{Rows}
+use Rattle.plain_shop.specs.Acts.{with_parent_audit}
 
 append_none : {X : Type 0} (xs : List X) → xs ≡ xs ++ []
 append_none [] = refl

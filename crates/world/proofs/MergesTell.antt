@@ -7,7 +7,7 @@ use Rattle.ticket_items.proofs.SpawnTexts.{spawn_of-spawn_text}
 use Rattle.ticket_items.specs.SpawnId.{is_spawn_number}
 use Rattle.ticket_rows.proofs.AtHome.{find-passes}
 use Rattle.ticket_rows.specs.Place.{Row, nodes_in, up}
-use Rattle.controller.specs.declared.reply.Reply.TheVariants as reply
+use Rattle.world_items.specs.declared.reply.Reply.TheVariants as reply
 use Rattle.ticket_items.specs.declared.edit.Edit.TheVariants.{SetStatus}
 use Rattle.world.proofs.Cases.{split, when_false}
 use Rattle.world.proofs.MergeAudits.{as_often, edit_is_quiet, one_if, telling_is_quiet, told_once, touch_tells}
@@ -16,13 +16,13 @@ use Rattle.world.proofs.OrdersTell.{Tells}
 use Rattle.world.proofs.ShopTells as shops
 use Rattle.world.proofs.ShopTells.{HaveNumbers, TellsMore, is_above, phase_stays, same_rows, tells_none, tells_nothing, times}
 use Rattle.worker_core.specs.Worker.{end_word}
-use Rattle.worker_core.specs.declared.end.End.TheVariants.{Aborted}
-use Rattle.world.specs.MergeAudits.{AuditsGrow, above_of, audit_tells, reply_tells}
-use Rattle.world.specs.Shop.{Closed, Declined, Done, Merged, Open, PlainState, Rows, SpawnState, Withdrawn, has_number, is_away, is_declined, is_done, is_merged, is_open, is_taken, spawn_of}
-use Rattle.world.specs.ShopActs.{after_close, after_decline, after_finish, after_merge, after_taking, after_withdrawal, is_held_by, merged_audit, put_in, with_parent_audit, withdrawn_audit}
-use Rattle.world.specs.ShopSteps.{Abort, Return, Submit, Tag, ToAbort, ToReturn, ToSubmit, on_abort, on_abort_answer, on_message, on_return, on_return_answer, on_submit, quiet_step, repeat_reply, sending_step}
+use Rattle.world_items.specs.declared.end.End.TheVariants.{Aborted}
+use Rattle.plain_shop.specs.MergeAudits.{AuditsGrow, above_of, audit_tells, reply_tells}
+use Rattle.plain_shop.specs.Shop.{Closed, Declined, Done, Merged, Open, PlainState, Rows, SpawnState, Withdrawn, has_number, is_away, is_declined, is_done, is_merged, is_open, is_taken, spawn_of}
+use Rattle.plain_shop.specs.Acts.{after_close, after_decline, after_finish, after_merge, after_taking, after_withdrawal, is_held_by, merged_audit, put_in, with_parent_audit, withdrawn_audit}
+use Rattle.plain_shop.specs.Steps.{Abort, Return, Submit, Tag, ToAbort, ToReturn, ToSubmit, on_abort, on_abort_answer, on_message, on_return, on_return_answer, on_submit, quiet_step, repeat_reply, sending_step}
 use Rattle.controller.specs.Step.{Step}
-use Rattle.world.specs.Step.{StepOrWord}
+use Rattle.plain_shop.specs.Step.{StepOrWord}
 use Rattle.world_items.specs.declared.word.Word.TheVariants.{Did, NoMessage}
 
 -- ---- one that is put in

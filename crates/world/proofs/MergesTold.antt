@@ -16,8 +16,8 @@ use Rattle.ticket_rows.specs.Ticket.{Job, has_node, ids}
 use Rattle.ticket_tree.proofs.LookUps.{stands_with_row}
 use Rattle.ticket_tree.proofs.OnPlaces.{stands_node, stands_somewhere}
 use Rattle.ticket_tree.specs.PlainEdit.{plain_places}
-use Rattle.controller.specs.declared.reply.Reply.{Reply}
-use Rattle.controller.specs.declared.reply.Reply.TheVariants as reply
+use Rattle.world_items.specs.declared.reply.Reply.{Reply}
+use Rattle.world_items.specs.declared.reply.Reply.TheVariants as reply
 use Rattle.spawn.proofs.HoldingsEdited.{new_nowhere}
 use Rattle.spawn.proofs.Lawful.{parent_is_masters, placed}
 use Rattle.spawn.proofs.SoundPart.{node_among_ids, false_by}
@@ -25,7 +25,7 @@ use Rattle.spawn.specs.Records as records
 use Rattle.spawn.specs.declared.records.phase.Phase as record_phase
 use Rattle.spawn.specs.declared.records.phase.Phase.TheVariants as recorded
 use Rattle.spawn.specs.Table.{holder_at}
-use Rattle.spawn.specs.declared.tables.holder.Holder.TheVariants.{Master}
+use Rattle.world_items.specs.declared.holder.Holder.TheVariants.{Master}
 use Rattle.master_core.proofs.EditedParts.{Told, edit_told, none_added, told}
 use Rattle.master_core.proofs.Refusals.{edit_free}
 use Rattle.master_core.specs.Master as master
@@ -44,18 +44,18 @@ use Rattle.world.proofs.Resends.{spawn_found}
 use Rattle.world.proofs.ShopTells.{HaveNumbers, IsSilent, IsTold, TellsMore, is_above, tells_nothing, then_told, times}
 use Rattle.world.specs.Happening as world
 use Rattle.world.specs.Laws.{MergesAreTold}
-use Rattle.world.specs.MergeAudits.{AuditsGrow, MergeAuditsMatch, above_of, answer_tells, reply_tells, word_tells}
+use Rattle.plain_shop.specs.MergeAudits.{AuditsGrow, MergeAuditsMatch, above_of, answer_tells, reply_tells, word_tells}
 use Rattle.world.specs.Messages.{entry_for}
 use Rattle.world.specs.Once.{AreMergedOnce}
-use Rattle.world.specs.Replay as replay
-use Rattle.world.specs.Shop.{PlainState, Rows, SpawnState, is_done, spawn_of}
-use Rattle.world.specs.ShopActs as acts
-use Rattle.world.specs.ShopActs.{is_spawn}
-use Rattle.world.specs.ShopSteps.{Tag, edit_refusal, on_message, worker_does}
+use Rattle.plain_shop.specs.Replay as replay
+use Rattle.plain_shop.specs.Shop.{PlainState, Rows, SpawnState, is_done, spawn_of}
+use Rattle.plain_shop.specs.Acts as acts
+use Rattle.plain_shop.specs.Acts.{is_spawn}
+use Rattle.plain_shop.specs.Steps.{Tag, edit_refusal, on_message, worker_does}
 use Rattle.world.specs.Showing.{phase_shown, row_at, shop_shown, shows, spawn_shown}
 use Rattle.world.specs.State.{IsConsistent, State, message_at, opening}
 use Rattle.controller.specs.Step.{Step}
-use Rattle.world.specs.Step.{StepOrWord}
+use Rattle.plain_shop.specs.Step.{StepOrWord}
 use Rattle.world_items.specs.declared.answer.Answer.{Answer}
 use Rattle.world_items.specs.declared.event.Event.{Event}
 use Rattle.world_items.specs.declared.stop.Stop.{Stop}

@@ -15,14 +15,14 @@ use Rattle.world.proofs.Cases.{split, when_false, when_true}
 use Rattle.world.proofs.Receivers.{master_receives, worker_receives}
 use Rattle.world.specs.Controllers.{Controllers}
 use Rattle.worker_core.specs.Orders.{order_step as ordered_worker}
-use Rattle.worker_core.specs.declared.order.Order.{Order}
+use Rattle.world_items.specs.declared.worker_order.Order.{Order}
 use Rattle.stored_state.specs.Cause.{step_on}
 use Rattle.stored_state.specs.declared.cause.StepInput.{StepInput}
 use Rattle.stored_state.specs.declared.cause.StepInput.TheVariants as causes
 use Rattle.world.specs.Happening.{delivery_step, is_reached, master_step, receiver_takes, worker_step}
 use Rattle.world.specs.Messages.{IsInOrder}
 use Rattle.world.specs.State.{IsConsistent, State, is_named, message_at}
-use Rattle.world.specs.Step.{StepOrWord}
+use Rattle.plain_shop.specs.Step.{StepOrWord}
 use Rattle.worker_core.specs.Messages.{take_step as taken_by_worker}
 use Rattle.world.specs.Stepping.{worker_moved}
 use Rattle.world_items.specs.declared.word.Word.{Word}

@@ -11,7 +11,7 @@ use Rattle.ticket_tree.specs.Part.{PartCopy}
 use Rattle.controller.specs.declared.body.Body.{Body}
 use Rattle.controller.specs.declared.body.Body.TheVariants.{Submit, Return, Abort, Answer as Answered}
 use Rattle.controller.specs.declared.message.Message.{Message}
-use Rattle.controller.specs.declared.reply.Reply.TheVariants as reply
+use Rattle.world_items.specs.declared.reply.Reply.TheVariants as reply
 use Rattle.spawn.specs.Records.{is_out}
 use Rattle.spawn.specs.declared.records.spawn_rec.SpawnRec.{SpawnRec}
 use Rattle.master_core.proofs.MessageLaws.{in_stays_in, merged_is_in}
@@ -20,14 +20,14 @@ use Rattle.master_core.proofs.Refusals.{done_order}
 use Rattle.master_core.specs.Master.{State as MasterState, is_spawn_out, merged_record, record_of, withdrawn_record}
 use Rattle.master_core.specs.Messages as master_messages
 use Rattle.master_core.specs.Orders as master_orders
-use Rattle.master_core.specs.declared.order.Order as master_order
-use Rattle.master_core.specs.declared.order.Order.TheVariants as master_orders_are
+use Rattle.world_items.specs.declared.master_order.Order as master_order
+use Rattle.world_items.specs.declared.master_order.Order.TheVariants as master_orders_are
 use Rattle.worker_core.specs.Messages as worker_messages
 use Rattle.worker_core.specs.Orders as worker_orders
 use Rattle.worker_core.specs.Worker as worker
 use Rattle.worker_core.specs.declared.entry.Entry.{Entry}
-use Rattle.worker_core.specs.declared.order.Order as worker_order
-use Rattle.worker_core.specs.declared.order.Order.TheVariants as worker_orders_are
+use Rattle.world_items.specs.declared.worker_order.Order as worker_order
+use Rattle.world_items.specs.declared.worker_order.Order.TheVariants as worker_orders_are
 use Rattle.world.proofs.AlwaysKept.{kept_after, message_there}
 use Rattle.world.proofs.Stored.{and_found, found_and}
 use Rattle.world.specs.Controllers.{Controllers, worker_of}

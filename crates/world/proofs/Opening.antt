@@ -9,14 +9,14 @@ use Rattle.ticket_items.specs.Ids.{mem}
 use Rattle.ticket_rows.specs.Place.{Place, place_at, places}
 use Rattle.controller.specs.declared.message.Message.{Message}
 use Rattle.spawn.specs.Table.{holder_at}
-use Rattle.spawn.specs.declared.tables.holder.Holder.TheVariants.{Master}
+use Rattle.world_items.specs.declared.holder.Holder.TheVariants.{Master}
 use Rattle.master_core.specs.Master as master
 use Rattle.worker_core.specs.Worker as worker
 use Rattle.world.proofs.ShopPaths.{same_shop}
 use Rattle.world.specs.Controllers.{Controllers}
 use Rattle.world.specs.Laws.{OpeningIsShown}
 use Rattle.world.specs.Messages.{AreInOrder, AreRecorded, HasComeBack}
-use Rattle.world.specs.ShopActs as acts
+use Rattle.plain_shop.specs.Acts as acts
 use Rattle.world.specs.Showing.{row_at, seen_shown, shop_shown}
 use Rattle.world.specs.State.{IsConsistent, new_worker, opening, state}
 

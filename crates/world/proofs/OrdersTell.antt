@@ -15,20 +15,20 @@ use Rattle.ticket_rows.specs.EditRefusal.{later_refusal}
 use Rattle.ticket_rows.specs.Place.{nodes_in, resources_in, up}
 use Rattle.ticket_rows.specs.Ticket.{first_of, unless}
 use Rattle.ticket_tree.specs.PlainEdit.{plain_lookups, stands}
-use Rattle.controller.specs.declared.reply.Reply.TheVariants as reply
-use Rattle.spawn.specs.Claim.{claim, ids_of, linked_outside}
-use Rattle.master_core.specs.declared.order.Order as master_order
-use Rattle.master_core.specs.declared.order.Order.TheVariants as to_master
+use Rattle.world_items.specs.declared.reply.Reply.TheVariants as reply
+use Rattle.plain_shop.specs.Claim.{claim, ids_of, linked_outside}
+use Rattle.world_items.specs.declared.master_order.Order as master_order
+use Rattle.world_items.specs.declared.master_order.Order.TheVariants as to_master
 use Rattle.worker_core.specs.Orders.{spawn_of_order}
 use Rattle.worker_core.specs.Worker.{end_word}
-use Rattle.worker_core.specs.declared.order.Order as worker_order
-use Rattle.worker_core.specs.declared.order.Order.TheVariants as to_worker
+use Rattle.world_items.specs.declared.worker_order.Order as worker_order
+use Rattle.world_items.specs.declared.worker_order.Order.TheVariants as to_worker
 use Rattle.world.proofs.MergeAudits.{IsNew, edit_is_quiet, telling_is_quiet}
 use Rattle.world.proofs.ShopTells.{SpawnsStay, TellsMore, phase_stays, same_rows, tells_none, tells_nothing, times}
-use Rattle.world.specs.MergeAudits.{above_of}
-use Rattle.world.specs.Shop.{Done, PlainState, SpawnState, has_number, is_open, next_number, spawn_of}
-use Rattle.world.specs.ShopActs.{after_edit, after_finish, after_sending, after_spawn, after_work, next_spawn, spawned_audit}
-use Rattle.world.specs.ShopSteps.{Abort, Return, Submit, Tag, back_refusal, edit_refusal, is_held, is_taken_by, is_to_read, master_does, not_held, on_order, quiet_step, resend_refusal, sending_step, spawn_refusal, work_refusal, worker_does}
+use Rattle.plain_shop.specs.MergeAudits.{above_of}
+use Rattle.plain_shop.specs.Shop.{Done, PlainState, SpawnState, has_number, is_open, next_number, spawn_of}
+use Rattle.plain_shop.specs.Acts.{after_edit, after_finish, after_sending, after_spawn, after_work, next_spawn, spawned_audit}
+use Rattle.plain_shop.specs.Steps.{Abort, Return, Submit, Tag, back_refusal, edit_refusal, is_held, is_taken_by, is_to_read, master_does, not_held, on_order, quiet_step, resend_refusal, sending_step, spawn_refusal, work_refusal, worker_does}
 use Rattle.controller.specs.Step.{Step, refused_step, unless_refused}
 use Rattle.world_items.specs.Word.{word_of}
 use Rattle.world_items.specs.declared.word.Word.TheVariants.{Did, Refused}

@@ -26,7 +26,7 @@ use Rattle.spawn.proofs.HomesBelow.{home_stands, homeless, or_right}
 use Rattle.spawn.proofs.PartShows.{copy_no_node}
 use Rattle.spawn.proofs.SoundPart.{false_by}
 use Rattle.spawn.proofs.Standing.{named}
-use Rattle.spawn.specs.Claim.{is_claimed}
+use Rattle.plain_shop.specs.Claim.{is_claimed}
 use Rattle.spawn.specs.Parts.{above, lifted_row, part_for}
 use Rattle.ticket_tree.specs.At.{rows_below}
 use Rattle.spawn.specs.Records.{IsGood}

@@ -22,7 +22,7 @@ use Rattle.spawn.proofs.Among.{mem_back}
 use Rattle.spawn.proofs.GoodCopies.{first_of_fixed, reads_ids}
 use Rattle.spawn.proofs.HomesBelow.{home_stands}
 use Rattle.spawn.proofs.SoundPart.{part_is_sound}
-use Rattle.spawn.specs.Claim as claim
+use Rattle.plain_shop.specs.Claim as claim
 use Rattle.spawn.specs.Parts.{part_for}
 use Rattle.spawn.specs.Records.{IsGood}
 use Rattle.spawn.specs.declared.records.spawn_rec.SpawnRec.{SpawnRec}

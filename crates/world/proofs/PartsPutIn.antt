@@ -14,14 +14,14 @@ use Rattle.controller.specs.Reply.{answer_to}
 use Rattle.controller.specs.declared.body.Body.TheVariants.{Return}
 use Rattle.controller.specs.declared.message.Message.{Message}
 use Rattle.controller.specs.declared.queue_status.QueueStatus.{QueueStatus}
-use Rattle.controller.specs.declared.reply.Reply.TheVariants as reply
+use Rattle.world_items.specs.declared.reply.Reply.TheVariants as reply
 use Rattle.spawn.proofs.Lawful.{placed}
 use Rattle.spawn.specs.Records.{is_out}
 use Rattle.spawn.specs.Table.{holder_of}
 use Rattle.spawn.specs.declared.records.phase.Phase.TheVariants as recorded
 use Rattle.spawn.specs.declared.records.spawn_rec.SpawnRec.{SpawnRec}
-use Rattle.spawn.specs.declared.tables.holder.Holder.{Holder}
-use Rattle.spawn.specs.declared.tables.holder.Holder.TheVariants as held_by
+use Rattle.world_items.specs.declared.holder.Holder.{Holder}
+use Rattle.world_items.specs.declared.holder.Holder.TheVariants as held_by
 use Rattle.merge.proofs.MergedHolders.{merge_keeps_others, merged_claim_is_masters}
 use Rattle.merge.proofs.PutPlaces.{put_of_places}
 use Rattle.merge.proofs.PutRows.{put_of_rows}
@@ -49,9 +49,9 @@ use Rattle.world.proofs.Stored.{and_found}
 use Rattle.world.proofs.TakenSpawns.{only_record, phase_of_entry}
 use Rattle.world.specs.Controllers.{Controllers}
 use Rattle.world.specs.Messages.{IsInOrder, entry_for}
-use Rattle.world.specs.Shop as plain
-use Rattle.world.specs.ShopActs as acts
-use Rattle.world.specs.ShopSteps as shop
+use Rattle.plain_shop.specs.Shop as plain
+use Rattle.plain_shop.specs.Acts as acts
+use Rattle.plain_shop.specs.Steps as shop
 use Rattle.world.specs.Showing.{entry_of_spawn, now_shown, part_of_spawn, phase_shown, row_at, seen_shown, shop_shown, spawn_shown, tag_of}
 use Rattle.world.specs.State.{IsConsistent, State}
 use Rattle.controller.specs.Step.{Step, message_step}

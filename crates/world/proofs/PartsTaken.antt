@@ -14,15 +14,15 @@ use Rattle.controller.specs.Reply.{answer_to}
 use Rattle.controller.specs.declared.body.Body.TheVariants.{Submit}
 use Rattle.controller.specs.declared.message.Message.{Message}
 use Rattle.controller.specs.declared.queue_status.QueueStatus.{QueueStatus}
-use Rattle.controller.specs.declared.reply.Reply.TheVariants as reply
+use Rattle.world_items.specs.declared.reply.Reply.TheVariants as reply
 use Rattle.spawn.proofs.Lawful.{held_is_claimed, placed}
 use Rattle.spawn.proofs.PartShows.{part_shows_claim}
-use Rattle.spawn.specs.Claim.{is_claimed}
+use Rattle.plain_shop.specs.Claim.{is_claimed}
 use Rattle.spawn.specs.Parts.{part_for}
 use Rattle.spawn.specs.Records.{is_out}
 use Rattle.spawn.specs.Table.{holder_at, holding_record, holds}
 use Rattle.spawn.specs.declared.records.spawn_rec.SpawnRec.{SpawnRec}
-use Rattle.spawn.specs.declared.tables.holder.Holder.TheVariants.{Master, Spawn}
+use Rattle.world_items.specs.declared.holder.Holder.TheVariants.{Master, Spawn}
 use Rattle.master_core.proofs.Recorded.{number_is}
 use Rattle.master_core.specs.Master as master
 use Rattle.worker_core.proofs.AtNumber.{found_holds}
@@ -41,9 +41,9 @@ use Rattle.world.proofs.Stored.{and_found}
 use Rattle.world.proofs.TakenSpawns.{phase_away, phase_of_entry, phase_out, taken_of_entry}
 use Rattle.world.specs.Controllers.{Controllers, entry_at, is_named, worker_of}
 use Rattle.world.specs.Messages.{HasComeBack, IsBack, IsInOrder, entry_for}
-use Rattle.world.specs.Shop.{Open, is_away, is_taken}
-use Rattle.world.specs.ShopActs.{after_taking, in_phase}
-use Rattle.world.specs.ShopSteps as shop
+use Rattle.plain_shop.specs.Shop.{Open, is_away, is_taken}
+use Rattle.plain_shop.specs.Acts.{after_taking, in_phase}
+use Rattle.plain_shop.specs.Steps as shop
 use Rattle.world.specs.Showing.{entry_of_spawn, phase_shown, row_at, seen_shown, shop_shown, spawn_shown, tag_of}
 use Rattle.world.specs.State.{IsConsistent, State}
 use Rattle.controller.specs.Step.{Step, Taking, message_step}

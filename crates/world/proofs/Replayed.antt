@@ -2,7 +2,7 @@
 use Rattle.std.proofs.Common.{◌≡◌, ◌∙◌, ℕ, ◌<◌, List, length, take, Result, Ok, Err, IfOk, OnOk, sym, ap}
 use Rattle.world.proofs.Events.{event_is_replayed, events_are_replayed}
 use Rattle.world.specs.Happening as world
-use Rattle.world.specs.Replay as replay
+use Rattle.plain_shop.specs.Replay as replay
 use Rattle.world.specs.Showing.{shows}
 use Rattle.world.specs.State.{IsConsistent, State}
 use Rattle.world_items.specs.declared.answer.Answer.{Answer}

@@ -3,20 +3,20 @@ use Rattle.std.proofs.Common.{◌≡◌, ◌∙◌, ℕ, Bool, true, false, Opti
 use Rattle.std.specs.Option.{option_map, option_map_or}
 use Rattle.ticket_items.specs.declared.refusal.Refusal.TheVariants.{NotOut}
 use Rattle.ticket_rows.specs.Ticket.{unless}
-use Rattle.controller.specs.declared.reply.Reply.TheVariants as reply
+use Rattle.world_items.specs.declared.reply.Reply.TheVariants as reply
 use Rattle.spawn.specs.Records as records
 use Rattle.spawn.specs.declared.records.spawn_rec.SpawnRec.{SpawnRec}
 use Rattle.master_core.proofs.Recorded.{number_is}
 use Rattle.master_core.specs.Master.{is_spawn_out, record_of}
 use Rattle.master_core.specs.Orders.{abort_of, submit_of}
-use Rattle.master_core.specs.declared.order.Order.TheVariants as order
+use Rattle.world_items.specs.declared.master_order.Order.TheVariants as order
 use Rattle.world.proofs.Agreeing.{Agrees}
 use Rattle.world.proofs.Cases.{found_made}
 use Rattle.world.proofs.TakenSpawns.{out_shown}
 use Rattle.world.specs.Controllers.{Controllers}
 use Rattle.world.specs.Messages.{entry_for}
-use Rattle.world.specs.Shop.{has_number, is_out, spawn_of}
-use Rattle.world.specs.ShopSteps.{Abort, Submit, master_does, sending_step}
+use Rattle.plain_shop.specs.Shop.{has_number, is_out, spawn_of}
+use Rattle.plain_shop.specs.Steps.{Abort, Submit, master_does, sending_step}
 use Rattle.world.specs.Showing.{shop_shown, spawn_shown}
 use Rattle.world.specs.State.{IsConsistent, State}
 use Rattle.controller.specs.Step.{unless_refused}

@@ -3,10 +3,10 @@ use Rattle.std.proofs.Common.{◌≡◌, ◌∙◌, suc, List, [], ◌∷◌, ma
 use Rattle.std.proofs.lemmas.List.{length-map, map-append}
 use Rattle.std.specs.Option.{option_map}
 use Rattle.world.specs.Running.{Agrees, IsShownBy, Machine, RunsAgree, StepsAgree, after, after_all, answer_to, answers_to, next_answer, next_state}
-use Rattle.world.specs.Settling.{answer_left, answer_without_step, messages_left, number_of, state_left, with_sent}
+use Rattle.plain_shop.specs.Settling.{answer_left, answer_without_step, messages_left, number_of, state_left, with_sent}
 use Rattle.controller.specs.Step.{Step}
 use Rattle.world_items.specs.Word.{word_of}
-use Rattle.world.specs.Step.{StepOrWord}
+use Rattle.plain_shop.specs.Step.{StepOrWord}
 use Rattle.world_items.specs.declared.event.Event.{Event}
 use Rattle.world_items.specs.declared.stop.Stop.{Stop}
 use Rattle.world_items.specs.declared.stop.Stop.TheVariants.{Run, BeforeSave, BeforeSend}

@@ -5,7 +5,7 @@ use Rattle.std.specs.Option.{option_map_or}
 use Rattle.std.specs.Str.{bytes_eq}
 use Rattle.controller.specs.Step.{message_step}
 use Rattle.controller.specs.declared.message.Message.{Message}
-use Rattle.controller.specs.declared.reply.Reply.{Reply}
+use Rattle.world_items.specs.declared.reply.Reply.{Reply}
 use Rattle.master_core.specs.Messages as master_messages
 use Rattle.worker_core.specs.Messages as worker_messages
 use Rattle.worker_core.specs.Worker as worker
@@ -20,7 +20,7 @@ use Rattle.world.specs.Laws.{SentIsTaken}
 use Rattle.world.specs.Messages.{IsInOrder}
 use Rattle.world.specs.State.{IsConsistent, State}
 use Rattle.world_items.specs.Word.{word_of}
-use Rattle.world.specs.Step.{StepOrWord}
+use Rattle.plain_shop.specs.Step.{StepOrWord}
 use Rattle.worker_core.specs.Messages.{take_step as taken_by_worker}
 use Rattle.world.specs.Stepping.{worker_moved}
 use Rattle.world_items.specs.declared.stop.Stop.TheVariants.{Run}

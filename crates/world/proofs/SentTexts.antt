@@ -8,7 +8,7 @@ use Rattle.jmf_message.specs.Decoded.{IsDecodedAs}
 use Rattle.stored_state.proofs.MessageTexts.{decoded_in}
 use Rattle.stored_state.specs.Message.{message_text}
 use Rattle.stored_state.specs.Message.{IsMessageText, message_in, messages_in}
-use Rattle.world.specs.Settling.{number_of, with_sent}
+use Rattle.plain_shop.specs.Settling.{number_of, with_sent}
 use Rattle.world.specs.State.{message_at}
 
 -- ---- one text, and those behind it

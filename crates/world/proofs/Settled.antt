@@ -6,11 +6,11 @@ use Rattle.master_core.specs.Master as master
 use Rattle.worker_core.specs.Worker as worker
 use Rattle.world.specs.Controllers.{Controllers}
 use Rattle.world.specs.Happening.{next_answer, next_state}
-use Rattle.world.specs.Settling.{answer_left, answer_without_step, messages_left, state_left}
+use Rattle.plain_shop.specs.Settling.{answer_left, answer_without_step, messages_left, state_left}
 use Rattle.world.specs.State.{State, state}
 use Rattle.controller.specs.Step.{Step}
 use Rattle.world_items.specs.Word.{word_of}
-use Rattle.world.specs.Step.{StepOrWord}
+use Rattle.plain_shop.specs.Step.{StepOrWord}
 use Rattle.world.specs.Stepping.{master_moved, worker_moved}
 use Rattle.world_items.specs.declared.stop.Stop.{Stop}
 use Rattle.world_items.specs.declared.stop.Stop.TheVariants.{Run, BeforeSave, BeforeSend}

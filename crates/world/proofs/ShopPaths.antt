@@ -1,6 +1,6 @@
 -- Shops are the same where they are so field by field, and point by point in what is said by id.
 use Rattle.std.proofs.Common.{◌≡◌, ℕ, List}
-use Rattle.world.specs.Shop.{PlainState}
+use Rattle.plain_shop.specs.Shop.{PlainState}
 
 -- two shops have the same in each field
 pub record AreAlike (p q : PlainState) : Type 0 where

@@ -7,9 +7,9 @@ use Rattle.ticket_items.specs.SpawnId.{is_spawn_number}
 use Rattle.ticket_rows.specs.Place.{Place, nodes_in, up}
 use Rattle.world.proofs.Cases.{split_some}
 use Rattle.world.proofs.MergeAudits.{as_often, goes_on_twice, one_if, stays_so}
-use Rattle.world.specs.MergeAudits.{AuditsGrow, above_of, word_tells}
-use Rattle.world.specs.Shop.{Phase, PlainState, Rows, SpawnState, has_number, spawn_of}
-use Rattle.world.specs.ShopActs.{in_phase}
+use Rattle.plain_shop.specs.MergeAudits.{AuditsGrow, above_of, word_tells}
+use Rattle.plain_shop.specs.Shop.{Phase, PlainState, Rows, SpawnState, has_number, spawn_of}
+use Rattle.plain_shop.specs.Acts.{in_phase}
 use Rattle.world_items.specs.declared.word.Word.{Word}
 
 -- whether a node stands above the one that was spawned

@@ -14,7 +14,7 @@ use Rattle.controller.specs.declared.command.Command.TheVariants as command
 use Rattle.controller.specs.declared.message.Message.{Message}
 use Rattle.controller.specs.declared.queue_status.QueueStatus.{QueueStatus}
 use Rattle.controller.specs.declared.queue_status.QueueStatus.TheVariants as queue
-use Rattle.controller.specs.declared.reply.Reply.TheVariants as reply
+use Rattle.world_items.specs.declared.reply.Reply.TheVariants as reply
 use Rattle.spawn.proofs.Ended.{end_keeps_others, ended_claim_is_masters}
 use Rattle.spawn.proofs.Lawful.{placed}
 use Rattle.spawn.specs.Records.{is_out}
@@ -22,8 +22,8 @@ use Rattle.spawn.specs.Spawning.{parent_of}
 use Rattle.spawn.specs.Table.{holder_of}
 use Rattle.spawn.specs.declared.records.phase.Phase.TheVariants as recorded
 use Rattle.spawn.specs.declared.records.spawn_rec.SpawnRec.{SpawnRec}
-use Rattle.spawn.specs.declared.tables.holder.Holder.{Holder}
-use Rattle.spawn.specs.declared.tables.holder.Holder.TheVariants as held_by
+use Rattle.world_items.specs.declared.holder.Holder.{Holder}
+use Rattle.world_items.specs.declared.holder.Holder.TheVariants as held_by
 use Rattle.merge.specs.Withdrawal.{job_after_withdrawal}
 use Rattle.master_core.proofs.Recorded.{found_phase, number_is, phase_at_place, phase_if}
 use Rattle.master_core.specs.Master as master
@@ -47,9 +47,9 @@ use Rattle.world.proofs.Stored.{and_found}
 use Rattle.world.proofs.TakenSpawns.{phase_of_entry}
 use Rattle.world.specs.Controllers.{Controllers}
 use Rattle.world.specs.Messages.{IsInOrder, entry_for}
-use Rattle.world.specs.Shop as plain
-use Rattle.world.specs.ShopActs as acts
-use Rattle.world.specs.ShopSteps as shop
+use Rattle.plain_shop.specs.Shop as plain
+use Rattle.plain_shop.specs.Acts as acts
+use Rattle.plain_shop.specs.Steps as shop
 use Rattle.world.specs.Showing.{entry_of_spawn, now_shown, part_of_spawn, phase_shown, row_at, seen_shown, shop_shown, spawn_shown, tag_of}
 use Rattle.world.specs.State.{IsConsistent, State}
 use Rattle.controller.specs.Step.{Step, message_step}

@@ -12,11 +12,11 @@ use Rattle.controller.specs.Reply.{answer_to}
 use Rattle.controller.specs.declared.body.Body.TheVariants.{Abort}
 use Rattle.controller.specs.declared.message.Message.{Message}
 use Rattle.controller.specs.declared.queue_status.QueueStatus.{QueueStatus}
-use Rattle.controller.specs.declared.reply.Reply.TheVariants as reply
+use Rattle.world_items.specs.declared.reply.Reply.TheVariants as reply
 use Rattle.spawn.proofs.Outside.{some_of}
 use Rattle.spawn.specs.declared.records.phase.Phase.TheVariants as recorded
 use Rattle.spawn.specs.declared.records.spawn_rec.SpawnRec.{SpawnRec}
-use Rattle.spawn.specs.declared.tables.holder.Holder.TheVariants as held_by
+use Rattle.world_items.specs.declared.holder.Holder.TheVariants as held_by
 use Rattle.master_core.proofs.Recorded.{number_is}
 use Rattle.master_core.specs.Master as master
 use Rattle.worker_core.proofs.AtNumber.{found_holds}
@@ -28,7 +28,7 @@ use Rattle.worker_core.specs.Messages.{abort_taking, aborted_entry, again_reply,
 use Rattle.worker_core.specs.Messages.{take_step as taken_by_worker}
 use Rattle.worker_core.specs.Orders as orders
 use Rattle.worker_core.specs.Worker as worker
-use Rattle.worker_core.specs.declared.end.End.TheVariants.{Aborted}
+use Rattle.world_items.specs.declared.end.End.TheVariants.{Aborted}
 use Rattle.worker_core.specs.declared.entry.Entry.{Entry}
 use Rattle.world.proofs.Agreeing.{Agrees, StepsAgree}
 use Rattle.world.proofs.Cases.{split, split_some}
@@ -43,9 +43,9 @@ use Rattle.world.proofs.WorkerEdits.{changed_stored, edited_now, kept_entry, ope
 use Rattle.world.proofs.WorkerFinishes.{root_held, root_spawned}
 use Rattle.world.specs.Controllers.{entry_at, is_named, worker_of}
 use Rattle.world.specs.Messages.{HasComeBack, IsInOrder, entry_for}
-use Rattle.world.specs.Shop.{Declined, Done, PlainState, is_away, is_open}
-use Rattle.world.specs.ShopActs as acts
-use Rattle.world.specs.ShopSteps as shop
+use Rattle.plain_shop.specs.Shop.{Declined, Done, PlainState, is_away, is_open}
+use Rattle.plain_shop.specs.Acts as acts
+use Rattle.plain_shop.specs.Steps as shop
 use Rattle.world.specs.Showing.{entry_of_spawn, now_shown, phase_shown, row_at, seen_shown, shop_shown, spawn_shown, tag_of}
 use Rattle.world.specs.State.{IsConsistent, State}
 use Rattle.controller.specs.Step.{Step, Taking, message_step}

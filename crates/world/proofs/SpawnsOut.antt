@@ -9,19 +9,19 @@ use Rattle.ticket_rows.specs.Ticket.{has_node}
 use Rattle.ticket_tree.proofs.Parents.{one_parent_each}
 use Rattle.spawn.proofs.Lawful.{parent_is_masters, placed}
 use Rattle.spawn.proofs.Outside.{some_of}
-use Rattle.spawn.specs.Claim.{is_claimed}
+use Rattle.plain_shop.specs.Claim.{is_claimed}
 use Rattle.spawn.specs.Records.{IsGood, is_out}
 use Rattle.spawn.specs.Spawning.{parent_of}
 use Rattle.spawn.specs.declared.records.spawn_rec.SpawnRec.{SpawnRec}
-use Rattle.spawn.specs.declared.tables.holder.Holder.{Holder}
-use Rattle.spawn.specs.declared.tables.holder.Holder.TheVariants as held_by
+use Rattle.world_items.specs.declared.holder.Holder.{Holder}
+use Rattle.world_items.specs.declared.holder.Holder.TheVariants as held_by
 use Rattle.master_core.specs.Master as master
 use Rattle.world.proofs.Cases.{split}
 use Rattle.world.proofs.HeldBySpawn.{good_record, held_claims}
 use Rattle.world.proofs.MasterSpawns.{above_by}
 use Rattle.world.proofs.PartHolds.{claims}
 use Rattle.world.specs.Controllers.{Controllers}
-use Rattle.world.specs.ShopActs as acts
+use Rattle.plain_shop.specs.Acts as acts
 
 -- a record that is out, and the node above that of its spawn
 pub record IsOutThere (c : Controllers) (r : SpawnRec) : Type 0 where

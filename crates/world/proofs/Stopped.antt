@@ -8,7 +8,7 @@ use Rattle.world.proofs.Unknown.{not_made}
 use Rattle.world.specs.Controllers.{Controllers}
 use Rattle.world.specs.Happening.{IsUnknown, after_all, machine, next_state, step_of}
 use Rattle.world.specs.Laws.{FailedSaveIsStop}
-use Rattle.world.specs.Replay as replay
+use Rattle.plain_shop.specs.Replay as replay
 use Rattle.world.specs.Running.{IsCutOff, IsStopped, stopping}
 use Rattle.world.specs.Showing.{shows}
 use Rattle.world.specs.State.{IsConsistent, State}

@@ -28,9 +28,9 @@ use Rattle.world.proofs.Cases.{found_both, found_made, none_found, split}
 use Rattle.world.proofs.Stored.{and_found}
 use Rattle.world.specs.Controllers.{Controllers, entry_at, is_named, worker_of}
 use Rattle.world.specs.Messages.{AreRecorded, HasComeBack, IsBack, IsRecorded, entry_for}
-use Rattle.world.specs.Shop.{Closed, Declined, Done, Merged, Open, Phase, is_away, is_done, is_open, is_taken}
-use Rattle.world.specs.Shop as plain
-use Rattle.world.specs.ShopSteps.{is_taken_by}
+use Rattle.plain_shop.specs.Shop.{Closed, Declined, Done, Merged, Open, Phase, is_away, is_done, is_open, is_taken}
+use Rattle.plain_shop.specs.Shop as plain
+use Rattle.plain_shop.specs.Steps.{is_taken_by}
 use Rattle.world.specs.Showing.{phase_shown, spawn_shown}
 use Rattle.world.specs.State.{IsConsistent, State}
 

@@ -17,8 +17,8 @@ use Rattle.ticket_tree.proofs.ById.{Line, pool_lines, row_at}
 use Rattle.ticket_tree.proofs.PlainRows.{keys_of_lines}
 use Rattle.ticket_tree.specs.PlainEdit.{is_at}
 use Rattle.world.specs.Laws.{TicketIsSeen}
-use Rattle.world.specs.SeenTicket.{as_node, as_resource, node_there, nodes_told, pool_of, resource_there}
-use Rattle.world.specs.Shop.{Rows}
+use Rattle.plain_shop.specs.SeenTicket.{as_node, as_resource, node_there, nodes_told, pool_of, resource_there}
+use Rattle.plain_shop.specs.Shop.{Rows}
 
 -- ---- each line is found by its id
 

@@ -10,7 +10,7 @@ use Rattle.world.proofs.WorkerPlaces.{StandsAt, settled_there}
 use Rattle.world.specs.Controllers.{Controllers}
 use Rattle.world.specs.Happening.{IsUnknown, next_state}
 use Rattle.world.specs.State.{IsConsistent, State, state}
-use Rattle.world.specs.Step.{StepOrWord}
+use Rattle.plain_shop.specs.Step.{StepOrWord}
 use Rattle.world.specs.Stepping.{master_moved, worker_moved}
 use Rattle.world_items.specs.declared.stop.Stop.TheVariants.{BeforeSave, BeforeSend}
 use Rattle.world_items.specs.declared.word.Word.{Word}

@@ -9,13 +9,13 @@ use Rattle.ticket_items.specs.declared.node_row.NodeRow.{NodeRow}
 use Rattle.ticket_items.specs.declared.refusal.Refusal.TheVariants.{Acknowledged, IsRoot, NotHeld, NotLinked, NotOpen, NotOut, UnknownEntry, UnknownWorker}
 use Rattle.ticket_items.specs.declared.resource.Resource.{Resource}
 use Rattle.ticket_items.specs.declared.usage.Usage.TheVariants.{Input, Output}
-use Rattle.controller.specs.declared.reply.Reply.TheVariants as reply
+use Rattle.world_items.specs.declared.reply.Reply.TheVariants as reply
 use Rattle.master_core.specs.Master.{may_change}
-use Rattle.master_core.specs.declared.order.Order.TheVariants as master
+use Rattle.world_items.specs.declared.master_order.Order.TheVariants as master
 use Rattle.worker_core.specs.Worker as worker
-use Rattle.worker_core.specs.declared.end.End.TheVariants.{Completed}
-use Rattle.worker_core.specs.declared.order.Order.{Order}
-use Rattle.worker_core.specs.declared.order.Order.TheVariants as worker_order
+use Rattle.world_items.specs.declared.end.End.TheVariants.{Completed}
+use Rattle.world_items.specs.declared.worker_order.Order.{Order}
+use Rattle.world_items.specs.declared.worker_order.Order.TheVariants as worker_order
 use Rattle.worker_core.specs.declared.stage.Stage.TheVariants as stage
 use Rattle.world.specs.Happening.{after_all, answers_to}
 use Rattle.world.specs.State.{State, opening, worker_of}

@@ -13,20 +13,20 @@ use Rattle.ticket_items.specs.declared.spawn_status.SpawnStatus.{SpawnStatus}
 use Rattle.ticket_items.specs.declared.spawn_status.SpawnStatus.TheVariants.{SpawnedRO, SpawnedRW}
 use Rattle.ticket_rows.specs.Homes.{resource_of}
 use Rattle.ticket_rows.specs.Ticket.{row_of}
-use Rattle.controller.specs.declared.reply.Reply.TheVariants as reply
+use Rattle.world_items.specs.declared.reply.Reply.TheVariants as reply
 use Rattle.spawn.specs.Marking.{marks}
-use Rattle.spawn.specs.declared.tables.holder.Holder.TheVariants.{Master, Spawn}
-use Rattle.master_core.specs.declared.order.Order.TheVariants as master
-use Rattle.worker_core.specs.declared.end.End.TheVariants.{Completed}
-use Rattle.worker_core.specs.declared.order.Order.TheVariants as worker
+use Rattle.world_items.specs.declared.holder.Holder.TheVariants.{Master, Spawn}
+use Rattle.world_items.specs.declared.master_order.Order.TheVariants as master
+use Rattle.world_items.specs.declared.end.End.TheVariants.{Completed}
+use Rattle.world_items.specs.declared.worker_order.Order.TheVariants as worker
 use Rattle.world.proofs.Worked.{deliver, event, given_up, job, once_and_again, press, print_at, says, sends, shop}
 use Rattle.world.specs.Happening as world
-use Rattle.world.specs.Replay.{TaggedShop, after_all, answers_to, opening}
-use Rattle.world.specs.SeenTicket.{ticket_seen}
-use Rattle.world.specs.Shop.{Closed, Merged, Open, Phase, PlainState}
-use Rattle.world.specs.ShopMarks.{shop_marks}
+use Rattle.plain_shop.specs.Replay.{TaggedShop, after_all, answers_to, opening}
+use Rattle.plain_shop.specs.SeenTicket.{ticket_seen}
+use Rattle.plain_shop.specs.Shop.{Closed, Merged, Open, Phase, PlainState}
+use Rattle.plain_shop.specs.Marks.{shop_marks}
 use Rattle.world.specs.Showing.{shows}
-use Rattle.world.specs.ShopSteps.{Return, Submit, ToReturn, ToSubmit}
+use Rattle.plain_shop.specs.Steps.{Return, Submit, ToReturn, ToSubmit}
 use Rattle.world.specs.State.{State}
 use Rattle.world_items.specs.declared.event.Event.{Event}
 use Rattle.world_items.specs.declared.stop.Stop.TheVariants.{Run, BeforeSave}

@@ -8,19 +8,19 @@ use Rattle.ticket_items.specs.declared.audit.Audit.TheVariants as audit
 use Rattle.ticket_items.specs.declared.edit.Edit.TheVariants.{SetStatus}
 use Rattle.ticket_items.specs.declared.refusal.Refusal.TheVariants.{NotHeld, NotOpen, NotOut, UnknownEntry}
 use Rattle.ticket_rows.specs.Ticket.{row_of}
-use Rattle.controller.specs.declared.reply.Reply.TheVariants as reply
-use Rattle.master_core.specs.declared.order.Order.TheVariants as master
+use Rattle.world_items.specs.declared.reply.Reply.TheVariants as reply
+use Rattle.world_items.specs.declared.master_order.Order.TheVariants as master
 use Rattle.worker_core.specs.Worker as worker_state
-use Rattle.worker_core.specs.declared.order.Order.TheVariants as worker
+use Rattle.world_items.specs.declared.worker_order.Order.TheVariants as worker
 use Rattle.worker_core.specs.declared.stage.Stage.TheVariants as stage
 use Rattle.world.proofs.Worked.{deliver, event, job, press, print_at, says, sends, shop}
 use Rattle.world.specs.Happening as world
-use Rattle.world.specs.Replay.{TaggedShop, after_all, answers_to, opening}
-use Rattle.world.specs.SeenTicket.{ticket_seen}
-use Rattle.world.specs.Shop.{Away, Declined, Done, Merged, Phase, PlainState, Withdrawn}
-use Rattle.world.specs.ShopMarks.{shop_marks}
+use Rattle.plain_shop.specs.Replay.{TaggedShop, after_all, answers_to, opening}
+use Rattle.plain_shop.specs.SeenTicket.{ticket_seen}
+use Rattle.plain_shop.specs.Shop.{Away, Declined, Done, Merged, Phase, PlainState, Withdrawn}
+use Rattle.plain_shop.specs.Marks.{shop_marks}
 use Rattle.world.specs.Showing.{shows}
-use Rattle.world.specs.ShopSteps.{Abort, Return, Submit, ToAbort, ToReturn, ToSubmit}
+use Rattle.plain_shop.specs.Steps.{Abort, Return, Submit, ToAbort, ToReturn, ToSubmit}
 use Rattle.world.specs.State.{worker_of}
 use Rattle.world_items.specs.declared.answer.Answer.{Answer}
 use Rattle.world_items.specs.declared.event.Event.{Event}

@@ -8,14 +8,14 @@ use Rattle.worker_core.proofs.Refusals.{of_declined, of_taken, refused_on}
 use Rattle.worker_core.specs.Orders as orders
 use Rattle.worker_core.specs.Worker as worker
 use Rattle.worker_core.specs.declared.entry.Entry.{Entry}
-use Rattle.worker_core.specs.declared.order.Order.{Order}
+use Rattle.world_items.specs.declared.worker_order.Order.{Order}
 use Rattle.world.proofs.Agreeing.{Agrees}
 use Rattle.world.proofs.Cases.{split, split_some}
 use Rattle.world.proofs.EntryStored.{worker_as_it_was}
 use Rattle.world.proofs.TakenSpawns.{HasRecord, declined_shown, entry_record, none_shown, taken_shown}
 use Rattle.world.specs.Controllers.{Controllers, worker_of}
-use Rattle.world.specs.Shop.{PlainState}
-use Rattle.world.specs.ShopSteps.{Tag, on_order, worker_does}
+use Rattle.plain_shop.specs.Shop.{PlainState}
+use Rattle.plain_shop.specs.Steps.{Tag, on_order, worker_does}
 use Rattle.world.specs.Showing.{shop_shown, spawn_shown}
 use Rattle.world.specs.State.{IsConsistent, State}
 use Rattle.controller.specs.Step.{Step, refused_step, unless_refused}

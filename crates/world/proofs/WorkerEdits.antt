@@ -17,12 +17,12 @@ use Rattle.ticket_tree.proofs.PartEdits.{part_edit_of_rows}
 use Rattle.ticket_tree.specs.Part.{PartCopy, edited_part, refusal_of_part}
 use Rattle.ticket_tree.specs.PartView.{part_row}
 use Rattle.ticket_tree.specs.PlainEdit.{plain_changed, plain_lookups, plain_rows, stands, with_row_changed}
-use Rattle.controller.specs.declared.reply.Reply.TheVariants as reply
+use Rattle.world_items.specs.declared.reply.Reply.TheVariants as reply
 use Rattle.spawn.specs.Records.{is_out}
 use Rattle.spawn.specs.declared.records.phase.Phase as records
 use Rattle.spawn.specs.declared.records.phase.Phase.TheVariants as recorded
-use Rattle.spawn.specs.declared.tables.holder.Holder.{Holder}
-use Rattle.spawn.specs.declared.tables.holder.Holder.TheVariants as held_by
+use Rattle.world_items.specs.declared.holder.Holder.{Holder}
+use Rattle.world_items.specs.declared.holder.Holder.TheVariants as held_by
 use Rattle.merge.specs.Shape.{Fits}
 use Rattle.master_core.specs.Master as master
 use Rattle.worker_core.proofs.AtNumber.{find-at_number, find-other, found_holds}
@@ -32,7 +32,7 @@ use Rattle.worker_core.proofs.Refusals.{edit_free, of_open}
 use Rattle.worker_core.specs.Orders as orders
 use Rattle.worker_core.specs.Worker as worker
 use Rattle.worker_core.specs.declared.entry.Entry.{Entry}
-use Rattle.worker_core.specs.declared.order.Order.TheVariants as order
+use Rattle.world_items.specs.declared.worker_order.Order.TheVariants as order
 use Rattle.worker_core.specs.declared.stage.Stage.{Stage}
 use Rattle.worker_core.specs.declared.stage.Stage.TheVariants as worker_stage
 use Rattle.world.proofs.Agreeing.{Agrees}
@@ -47,9 +47,9 @@ use Rattle.world.proofs.WorkerAgrees.{AgreesThere, agrees_as, refused_or_agrees,
 use Rattle.world.proofs.WorkerSteps.{with_next}
 use Rattle.world.specs.Controllers.{Controllers, is_named, worker_of}
 use Rattle.world.specs.Messages.{entry_for}
-use Rattle.world.specs.Shop as shop
-use Rattle.world.specs.ShopActs.{after_work, is_held_by}
-use Rattle.world.specs.ShopSteps as steps
+use Rattle.plain_shop.specs.Shop as shop
+use Rattle.plain_shop.specs.Acts.{after_work, is_held_by}
+use Rattle.plain_shop.specs.Steps as steps
 use Rattle.world.specs.Showing.{now_shown, phase_shown, row_at, seen_shown, shop_shown, spawn_shown}
 use Rattle.world.specs.State.{IsConsistent, State}
 use Rattle.controller.specs.Step.{unless_refused}

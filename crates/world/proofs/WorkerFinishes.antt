@@ -11,7 +11,7 @@ use Rattle.ticket_rows.specs.Ticket.{IsValid, Job, unless}
 use Rattle.ticket_tree.proofs.ById.{among_ids}
 use Rattle.ticket_tree.specs.Part.{PartCopy}
 use Rattle.ticket_tree.specs.PlainEdit.{plain_rows}
-use Rattle.controller.specs.declared.reply.Reply.TheVariants as reply
+use Rattle.world_items.specs.declared.reply.Reply.TheVariants as reply
 use Rattle.spawn.proofs.GoodCopies.{good_node}
 use Rattle.spawn.proofs.RowsBelow.{rows_below-around}
 use Rattle.spawn.proofs.Split.{around}
@@ -25,9 +25,9 @@ use Rattle.worker_core.proofs.Kept.{kept_part}
 use Rattle.worker_core.proofs.Refusals.{of_open, open_free}
 use Rattle.worker_core.specs.Orders as orders
 use Rattle.worker_core.specs.Worker as worker
-use Rattle.worker_core.specs.declared.end.End.{End}
+use Rattle.world_items.specs.declared.end.End.{End}
 use Rattle.worker_core.specs.declared.entry.Entry.{Entry}
-use Rattle.worker_core.specs.declared.order.Order.TheVariants as order
+use Rattle.world_items.specs.declared.worker_order.Order.TheVariants as order
 use Rattle.world.proofs.Agreeing.{Agrees}
 use Rattle.world.proofs.EntryStored.{spawns_stored}
 use Rattle.world.proofs.HeldBySpawn.{good_record, held_claims}
@@ -37,9 +37,9 @@ use Rattle.world.proofs.TakenSpawns.{phase_out}
 use Rattle.world.proofs.WorkerAgrees.{AgreesThere, agrees_as, refused_or_agrees, worker_agrees}
 use Rattle.world.proofs.WorkerEdits.{changed_stored, edited_now, kept_entry, open_has_part, open_out, open_shown, part_fits}
 use Rattle.world.specs.Controllers.{worker_of}
-use Rattle.world.specs.Shop as shop
-use Rattle.world.specs.ShopActs.{after_finish, in_phase, is_held_by}
-use Rattle.world.specs.ShopSteps as steps
+use Rattle.plain_shop.specs.Shop as shop
+use Rattle.plain_shop.specs.Acts.{after_finish, in_phase, is_held_by}
+use Rattle.plain_shop.specs.Steps as steps
 use Rattle.world.specs.Showing.{now_shown, phase_shown, shop_shown, spawn_shown, tag_of}
 use Rattle.world.specs.State.{IsConsistent, State}
 use Rattle.controller.specs.Step.{unless_refused}

@@ -15,7 +15,7 @@ use Rattle.stored_state.specs.Seat.{IsOldOrNext}
 use Rattle.worker_core.specs.Worker as worker
 use Rattle.world.proofs.Kept.{Keeps, settled_kept}
 use Rattle.world.specs.Happening.{next_state}
-use Rattle.world.specs.Settling.{messages_left, state_left}
+use Rattle.plain_shop.specs.Settling.{messages_left, state_left}
 use Rattle.world.specs.State.{IsConsistent, is_named, state, with_worker, worker_of}
 use Rattle.controller.specs.Step.{Step}
 use Rattle.world.specs.Stepping.{worker_moved}

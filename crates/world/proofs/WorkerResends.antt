@@ -5,7 +5,7 @@ use Rattle.ticket_items.specs.declared.refusal.Refusal.{Refusal}
 use Rattle.ticket_items.specs.declared.refusal.Refusal.TheVariants.{Acknowledged, NotDone}
 use Rattle.ticket_rows.specs.Ticket.{first_of, unless}
 use Rattle.ticket_tree.specs.Part.{PartCopy}
-use Rattle.controller.specs.declared.reply.Reply.TheVariants as reply
+use Rattle.world_items.specs.declared.reply.Reply.TheVariants as reply
 use Rattle.spawn.proofs.Outside.{some_of}
 use Rattle.spawn.specs.Records.{is_out}
 use Rattle.worker_core.proofs.Closing.{keeps_done, unclosed}
@@ -14,7 +14,7 @@ use Rattle.worker_core.proofs.Refusals.{done_free}
 use Rattle.worker_core.specs.Orders as orders
 use Rattle.worker_core.specs.Worker as worker
 use Rattle.worker_core.specs.declared.entry.Entry.{Entry}
-use Rattle.worker_core.specs.declared.order.Order.TheVariants as order
+use Rattle.world_items.specs.declared.worker_order.Order.TheVariants as order
 use Rattle.world.proofs.Agreeing.{Agrees}
 use Rattle.world.proofs.Cases.{split}
 use Rattle.world.proofs.EntryStored.{worker_as_it_was}
@@ -22,8 +22,8 @@ use Rattle.world.proofs.TakenSpawns.{HasRecord, merged_of, phase_out}
 use Rattle.world.proofs.WorkerAgrees.{AgreesThere, agrees_as, refused_or_agrees, worker_agrees}
 use Rattle.world.proofs.WorkerEdits.{kept_entry, open_shown}
 use Rattle.world.specs.Controllers.{Controllers, worker_of}
-use Rattle.world.specs.Shop as shop
-use Rattle.world.specs.ShopSteps as steps
+use Rattle.plain_shop.specs.Shop as shop
+use Rattle.plain_shop.specs.Steps as steps
 use Rattle.world.specs.Showing.{phase_shown, shop_shown, spawn_shown, tag_of}
 use Rattle.world.specs.State.{IsConsistent, State}
 use Rattle.controller.specs.Step.{unless_refused}

@@ -30,10 +30,10 @@ use Rattle.worker_core.specs.Laws.{entry_after}
 use Rattle.worker_core.specs.Messages.{abort_taking, aborted_entry, decline_taking, entry_taking, is_for_workers, on_answer, on_body, repeat_taking, take_refusal, take_step}
 use Rattle.worker_core.specs.Orders.{allowed_step, edited_entry, end_edit, ended_part, finished_entry, order_refusal, part_return, spawn_of_order}
 use Rattle.worker_core.specs.Worker.{IsConsistent, IsKeptEntry, IsKeptPart, State, closed_entry, declined_entry, entry_of, is_declined, is_ended, is_of, is_open, new_entry}
-use Rattle.worker_core.specs.declared.end.End.TheVariants.{Aborted}
+use Rattle.world_items.specs.declared.end.End.TheVariants.{Aborted}
 use Rattle.worker_core.specs.declared.entry.Entry.{Entry}
-use Rattle.worker_core.specs.declared.order.Order.{Order}
-use Rattle.worker_core.specs.declared.order.Order.TheVariants as order
+use Rattle.world_items.specs.declared.worker_order.Order.{Order}
+use Rattle.world_items.specs.declared.worker_order.Order.TheVariants as order
 use Rattle.master_core.specs.Master.{record_of}
 use Rattle.world.proofs.EditedFits.{edited_fits}
 use Rattle.world.proofs.Cases.{made_of}

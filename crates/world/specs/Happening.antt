@@ -5,15 +5,15 @@ use Rattle.std.specs.Option.{option_map_or}
 use Rattle.std.specs.Str.{bytes_eq}
 use Rattle.ticket_items.specs.declared.refusal.Refusal.TheVariants.{UnknownWorker}
 use Rattle.controller.specs.declared.message.Message.{Message}
-use Rattle.master_core.specs.declared.order.Order as master
-use Rattle.worker_core.specs.declared.order.Order as worker
+use Rattle.world_items.specs.declared.master_order.Order as master
+use Rattle.world_items.specs.declared.worker_order.Order as worker
 use Rattle.stored_state.specs.Cause.{step_on}
 use Rattle.stored_state.specs.declared.cause.StepInput.{StepInput}
 use Rattle.stored_state.specs.declared.cause.StepInput.TheVariants as causes
 use Rattle.world.specs.Running as running
 use Rattle.world.specs.Running.{Machine}
 use Rattle.world.specs.State.{Controllers, State, is_controller, message_at, worker_of}
-use Rattle.world.specs.Step.{StepOrWord}
+use Rattle.plain_shop.specs.Step.{StepOrWord}
 use Rattle.master_core.specs.Orders.{order_step as ordered_master}
 use Rattle.worker_core.specs.Orders.{order_step as ordered_worker}
 use Rattle.world.specs.Stepping.{master_moved}

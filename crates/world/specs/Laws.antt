@@ -3,17 +3,17 @@ use Rattle.std.specs.Prelude.{◌≡◌, ◌↔◌, ◌⊎◌, ℕ, List, Some, 
 use Rattle.ticket_rows.specs.Ticket.{Job}
 use Rattle.controller.specs.Step.{Step}
 use Rattle.controller.specs.declared.message.Message.{Message}
-use Rattle.controller.specs.declared.reply.Reply.{Reply}
+use Rattle.world_items.specs.declared.reply.Reply.{Reply}
 use Rattle.spawn.specs.Marking.{marks}
 use Rattle.world.specs.Changing.{Changer, Holds, MayChange}
 use Rattle.world.specs.Happening as happening
 use Rattle.world.specs.Happening.{after_all, answer_to, answers_to}
-use Rattle.world.specs.MergeAudits.{MergeAuditsMatch}
+use Rattle.plain_shop.specs.MergeAudits.{MergeAuditsMatch}
 use Rattle.world.specs.Once.{AreMergedOnce, IsIn, TellsMerge}
-use Rattle.world.specs.Replay as replay
+use Rattle.plain_shop.specs.Replay as replay
 use Rattle.world.specs.Running.{IsStopped, RunsAgree}
-use Rattle.world.specs.SeenTicket.{ticket_seen}
-use Rattle.world.specs.ShopMarks.{shop_marks}
+use Rattle.plain_shop.specs.SeenTicket.{ticket_seen}
+use Rattle.plain_shop.specs.Marks.{shop_marks}
 use Rattle.world.specs.Showing.{shop_shown, shows}
 use Rattle.world.specs.State.{Controllers, IsConsistent, State, message_at, opening}
 use Rattle.world_items.specs.declared.answer.Answer.{Answer}

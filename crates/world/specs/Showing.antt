@@ -11,17 +11,17 @@ use Rattle.controller.specs.declared.message.Message.{Message}
 use Rattle.spawn.specs.declared.records.phase.Phase as records
 use Rattle.spawn.specs.declared.records.phase.Phase.TheVariants as recorded
 use Rattle.spawn.specs.declared.records.spawn_rec.SpawnRec.{SpawnRec}
-use Rattle.spawn.specs.declared.tables.holder.Holder.{Holder}
-use Rattle.spawn.specs.declared.tables.holder.Holder.TheVariants as held_by
+use Rattle.world_items.specs.declared.holder.Holder.{Holder}
+use Rattle.world_items.specs.declared.holder.Holder.TheVariants as held_by
 use Rattle.master_core.specs.Master as master
 use Rattle.worker_core.specs.Worker as worker
 use Rattle.worker_core.specs.declared.entry.Entry.{Entry}
 use Rattle.world.specs.Controllers.{Controllers}
 use Rattle.world.specs.Messages.{entry_for}
-use Rattle.world.specs.Replay.{TaggedShop}
-use Rattle.world.specs.Shop.{Away, Closed, Declined, Done, Merged, Open, Phase, PlainState, Rows}
-use Rattle.world.specs.Shop.{SpawnState, Withdrawn}
-use Rattle.world.specs.ShopSteps.{Abort, Return, Submit, Tag, ToAbort, ToReturn, ToSubmit}
+use Rattle.plain_shop.specs.Replay.{TaggedShop}
+use Rattle.plain_shop.specs.Shop.{Away, Closed, Declined, Done, Merged, Open, Phase, PlainState, Rows}
+use Rattle.plain_shop.specs.Shop.{SpawnState, Withdrawn}
+use Rattle.plain_shop.specs.Steps.{Abort, Return, Submit, Tag, ToAbort, ToReturn, ToSubmit}
 use Rattle.world.specs.State.{State}
 
 -- ---- spawns

@@ -1,10 +1,11 @@
 -- The controllers of a shop, each as its state is stored, and the messages that they sent.
-use Rattle.std.specs.Prelude.{◌≡◌, ℕ, zero, suc, List, [], map, slice_get, Option, None}
+use Rattle.std.specs.Prelude.{◌≡◌, ℕ, List, [], map, Option, None}
 use Rattle.std.specs.List.{All}
 use Rattle.ticket_rows.specs.Ticket.{Job}
 use Rattle.controller.specs.declared.message.Message.{Message}
 use Rattle.master_core.specs.Master as master
 use Rattle.worker_core.specs.Worker as worker
+pub use Rattle.plain_shop.specs.Settling.{message_at}
 pub use Rattle.world.specs.Controllers.{Controllers, is_controller, is_named, with_worker}
 pub use Rattle.world.specs.Controllers.{worker_of}
 use Rattle.world.specs.Messages.{AreInOrder, AreRecorded, HasComeBack}
@@ -20,13 +21,6 @@ state m workers messages =
       controllers = record { master = m; workers = workers };
       messages = messages;
     }
-
--- ---- by number
-
--- the message of a number. The first has the number 1
-abbrev pub message_at : {M : Type 0} → List M → ℕ → Option M
-message_at messages zero = None
-message_at messages (suc k) = slice_get messages k
 
 -- ---- in the beginning
 

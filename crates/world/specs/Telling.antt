@@ -9,10 +9,10 @@ use Rattle.controller.specs.declared.message.Message.{Message}
 use Rattle.spawn.specs.Parts.{part_for}
 use Rattle.spawn.specs.Records.{is_out}
 use Rattle.spawn.specs.declared.records.spawn_rec.SpawnRec.{SpawnRec}
-use Rattle.spawn.specs.declared.tables.holder.Holder.TheVariants.{Spawn}
+use Rattle.world_items.specs.declared.holder.Holder.TheVariants.{Spawn}
 use Rattle.master_core.specs.Master.{record_of}
-use Rattle.world.specs.SeenTicket.{ticket_seen}
-use Rattle.world.specs.Shop.{PlainState, Rows}
+use Rattle.plain_shop.specs.SeenTicket.{ticket_seen}
+use Rattle.plain_shop.specs.Shop.{PlainState, Rows}
 use Rattle.world.specs.Showing.{shop_shown}
 use Rattle.world.specs.State.{State}
 

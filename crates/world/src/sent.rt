@@ -3,7 +3,7 @@ ghost use Rattle.std.specs.Prelude.{vec_capacity, vec_len};
 ghost use Rattle.std.specs.Prelude.{option_and_then, option_copied, option_map};
 ghost use Rattle.jmf_message.specs.Decoded.{IsDecodedAs};
 ghost use Rattle.stored_state.specs.Message.{IsMessageText, message_in, message_text, messages_in};
-ghost use Rattle.world.specs.Settling as settling;
+ghost use Rattle.plain_shop.specs.Settling as settling;
 ghost use Rattle.world.specs.State as state;
 
 use std::alloc::{AllocError, Global};

@@ -8,7 +8,7 @@ ghost use Rattle.stored_state.specs.Cause.{step_on};
 ghost use Rattle.stored_state.specs.Message.{message_text};
 ghost use Rattle.stored_state.specs.Seat.{IsOldOrNext};
 ghost use Rattle.world_items.specs.Word.{word_of};
-ghost use Rattle.world.specs.Settling as settling;
+ghost use Rattle.plain_shop.specs.Settling as settling;
 
 use crate::carrier::Carrier;
 use crate::sent::SentMessages;

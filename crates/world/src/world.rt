@@ -39,12 +39,12 @@ impl World {
     ghost use Rattle.stored_state.specs.Message.{message_text, messages_in};
     ghost use Rattle.world.specs.Changing.{Changer, Holds, MayChange};
     ghost use Rattle.world.specs.Happening as happening;
-    ghost use Rattle.world.specs.MergeAudits.{MergeAuditsMatch};
+    ghost use Rattle.plain_shop.specs.MergeAudits.{MergeAuditsMatch};
     ghost use Rattle.world.specs.Once.{AreMergedOnce};
-    ghost use Rattle.world.specs.Replay as replay;
-    ghost use Rattle.world.specs.SeenTicket.{ticket_seen};
-    ghost use Rattle.world.specs.Settling as settling;
-    ghost use Rattle.world.specs.ShopMarks.{shop_marks};
+    ghost use Rattle.plain_shop.specs.Replay as replay;
+    ghost use Rattle.plain_shop.specs.SeenTicket.{ticket_seen};
+    ghost use Rattle.plain_shop.specs.Settling as settling;
+    ghost use Rattle.plain_shop.specs.Marks.{shop_marks};
     ghost use Rattle.world.specs.Showing.{shows};
     ghost use Rattle.world.specs.State as state;
     ghost use Rattle.world.specs.StoredTexts as texts;

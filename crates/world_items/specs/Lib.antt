@@ -1,1 +1,5 @@
+pub mod End
+pub mod Holder
+pub mod Reply
 pub mod Word
+pub mod WorkerOrder

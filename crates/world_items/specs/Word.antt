@@ -1,7 +1,7 @@
 -- What came of an event, in a word.
 use Rattle.std.specs.Prelude.{Result, Ok, Err}
 use Rattle.ticket_items.specs.declared.refusal.Refusal.{Refusal}
-use Rattle.controller.specs.declared.reply.Reply.{Reply}
+use Rattle.world_items.specs.declared.reply.Reply.{Reply}
 use Rattle.world_items.specs.declared.word.Word.{Word}
 use Rattle.world_items.specs.declared.word.Word.TheVariants.{Did, Refused}
 

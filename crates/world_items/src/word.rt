@@ -1,4 +1,4 @@
-use controller::Reply;
+use crate::reply::Reply;
 use ticket_tree::Refusal;
 
 /// What came of an event, in a word.

@@ -15,9 +15,9 @@ use Rattle.json_items.specs.TicketDraft.{own_row, ticket_form}
 use Rattle.controller_form.specs.Openings.ShopForm.{shop_form}
 use Rattle.json_items.specs.TicketForm.{node_has_names, pools_have_names, row_has_texts}
 use Rattle.json_items.specs.Edits.{adding_form, edit_form, note_form}
-use Rattle.controller.specs.declared.reply.Reply.TheVariants as reply
-use Rattle.master_core.specs.declared.order.Order.TheVariants as master
-use Rattle.worker_core.specs.declared.order.Order.TheVariants as worker
+use Rattle.world_items.specs.declared.reply.Reply.TheVariants as reply
+use Rattle.world_items.specs.declared.master_order.Order.TheVariants as master
+use Rattle.world_items.specs.declared.worker_order.Order.TheVariants as worker
 use Rattle.controller_form.specs.Orders.MasterForm as master_form
 use Rattle.controller_form.specs.Orders.KnownSpawn.{known_form}
 use Rattle.controller_form.specs.Orders.WorkerForm as worker_form

@@ -4,7 +4,7 @@ use Rattle.ticket_items.specs.Refusal.{holder_of, number_of, name_of}
 use Rattle.ticket_items.specs.SpawnId.{spawn_text}
 use Rattle.ticket_items.specs.declared.refusal.Refusal.{Refusal}
 use Rattle.controller.specs.Reply as replies
-use Rattle.controller.specs.declared.reply.Reply.{Reply}
+use Rattle.world_items.specs.declared.reply.Reply.{Reply}
 use Rattle.world_items.specs.declared.answer.Answer.{Answer}
 use Rattle.world_items.specs.declared.word.Word.{Word}
 use Rattle.world_items.specs.declared.word.Word.TheVariants.{Did, Refused, Stopped, Restarted}

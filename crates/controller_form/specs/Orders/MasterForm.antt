@@ -14,8 +14,8 @@ use Rattle.json_items.specs.Edits.{edit_form as form_of_edit, edit_has_names, ed
 use Rattle.json_items.specs.Validation.{checked_draft, first_fault}
 use Rattle.json_items.specs.Listed.{list_form}
 use Rattle.json_source.specs.Read.{◌>>=◌, some_if, has_only, text_under}
-use Rattle.master_core.specs.declared.order.Order.{Order}
-use Rattle.master_core.specs.declared.order.Order.TheVariants.{Edit, Spawn, Resend, Withdraw}
+use Rattle.world_items.specs.declared.master_order.Order.{Order}
+use Rattle.world_items.specs.declared.master_order.Order.TheVariants.{Edit, Spawn, Resend, Withdraw}
 use Rattle.controller_form.specs.Orders.KnownSpawn.{known_form}
 
 -- ---- by members and their kinds alone

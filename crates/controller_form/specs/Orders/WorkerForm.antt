@@ -11,8 +11,8 @@ use Rattle.ticket_items.specs.declared.refusal.Refusal.{Refusal}
 use Rattle.json_items.specs.Edits.{edit_form as form_of_edit, edit_has_names, edit_has_texts}
 use Rattle.json_items.specs.Validation.{checked_draft, first_fault}
 use Rattle.json_source.specs.Read.{◌>>=◌, some_if, has_only, text_under}
-use Rattle.worker_core.specs.declared.order.Order.{Order}
-use Rattle.worker_core.specs.declared.order.Order.TheVariants.{Edit, Finish, Resend}
+use Rattle.world_items.specs.declared.worker_order.Order.{Order}
+use Rattle.world_items.specs.declared.worker_order.Order.TheVariants.{Edit, Finish, Resend}
 use Rattle.controller_form.specs.Orders.EndNamed.{end_named}
 use Rattle.controller_form.specs.Orders.KnownSpawn.{known_form, spawn_under}
 

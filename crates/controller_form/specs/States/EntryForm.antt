@@ -14,7 +14,7 @@ use Rattle.json_items.specs.PartForm as part_form
 use Rattle.json_source.specs.Read.{◌>>=◌, some_if, has_only, number_under, text_under}
 use Rattle.json_text.specs.PartWritten.{part_data}
 use Rattle.worker_core.specs.Worker.{end_word}
-use Rattle.worker_core.specs.declared.end.End.{End}
+use Rattle.world_items.specs.declared.end.End.{End}
 use Rattle.worker_core.specs.declared.entry.Entry.{Entry}
 use Rattle.worker_core.specs.declared.stage.Stage.{Stage}
 use Rattle.worker_core.specs.declared.stage.Stage.TheVariants.{Open, Done, Closed, Declined}

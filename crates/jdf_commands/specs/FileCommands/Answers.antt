@@ -8,7 +8,7 @@ use Rattle.controller.specs.declared.command.Command.{Command}
 use Rattle.controller.specs.declared.command.Command.TheVariants.{Abort}
 use Rattle.controller.specs.declared.message.Message.{Message}
 use Rattle.controller.specs.declared.queue_status.QueueStatus.{QueueStatus}
-use Rattle.controller.specs.declared.reply.Reply.{Reply}
+use Rattle.world_items.specs.declared.reply.Reply.{Reply}
 pub use Rattle.jmf_message.specs.Refused.{refusal_told}
 use Rattle.ticket_items.specs.Refusal.{name_of, number_of}
 use Rattle.ticket_items.specs.declared.refusal.Refusal.{Refusal}

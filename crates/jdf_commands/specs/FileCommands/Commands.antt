@@ -19,7 +19,7 @@ use Rattle.jdf_commands.specs.FileCommands.Pictured.{picture_text}
 use Rattle.jdf_commands.specs.FileCommands.Shown.{master_text, worker_text}
 use Rattle.jdf_commands.specs.FileCommands.Notes.{notes_of}
 use Rattle.jdf_commands.specs.FileCommands.Step.{GivesNoOutput, is_refused, step_lines}
-use Rattle.controller.specs.declared.reply.Reply.{Reply}
+use Rattle.world_items.specs.declared.reply.Reply.{Reply}
 use Rattle.stored_state.specs.Step.{GivesStep, TextStep}
 
 -- which step the bytes are for a controller

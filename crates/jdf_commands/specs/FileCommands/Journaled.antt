@@ -2,7 +2,7 @@
 use Rattle.std.specs.Prelude.{◌≡◌, ℕ, Bool, List, Option, Some, Result, Ok}
 use Rattle.ticket_items.specs.declared.refusal.Refusal.{Refusal}
 use Rattle.controller.specs.declared.message.Message.{Message}
-use Rattle.controller.specs.declared.reply.Reply.{Reply}
+use Rattle.world_items.specs.declared.reply.Reply.{Reply}
 use Rattle.jmf_message.specs.Decoded.{IsDecodedAs}
 use Rattle.json_profile.specs.ReadAs.{IsReadAs}
 use Rattle.journal.specs.Journal.{IsJournaled}

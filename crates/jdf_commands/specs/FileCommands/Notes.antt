@@ -7,8 +7,8 @@ use Rattle.ticket_items.specs.SpawnId.{spawn_text}
 use Rattle.ticket_items.specs.declared.refusal.Refusal.{Refusal}
 use Rattle.ticket_tree.specs.Part.{PartCopy}
 use Rattle.json_text.specs.PartWritten.{part_data}
-use Rattle.controller.specs.declared.reply.Reply.{Reply}
-use Rattle.controller.specs.declared.reply.Reply.TheVariants.{Edited}
+use Rattle.world_items.specs.declared.reply.Reply.{Reply}
+use Rattle.world_items.specs.declared.reply.Reply.TheVariants.{Edited}
 use Rattle.worker_core.specs.declared.entry.Entry.{Entry}
 use Rattle.stored_state.specs.declared.any_controller.AnyController.{AnyController}
 use Rattle.stored_state.specs.declared.any_controller.AnyController.TheVariants.{Master as of_master}

@@ -3,7 +3,7 @@ use Rattle.std.specs.Prelude.{◌≡◌, ◌⊎◌, ◌++◌, ℕ, Bool, not, Li
 use Rattle.std.specs.Prelude.{Option, Some, None, Result, is_ok}
 use Rattle.ticket_items.specs.declared.refusal.Refusal.{Refusal}
 use Rattle.ticket_items.specs.declared.refusal.Refusal.TheVariants.{Memory}
-use Rattle.controller.specs.declared.reply.Reply.{Reply}
+use Rattle.world_items.specs.declared.reply.Reply.{Reply}
 use Rattle.world_items.specs.Word.{word_of}
 use Rattle.world_script.specs.AnswerText.{answer_text}
 use Rattle.streams.specs.declared.refused.Refused.{Refused as CallRefused}

@@ -3,10 +3,10 @@ use Rattle.std.specs.Prelude.{◌≡◌, ℕ, Bool, false, List, [], ◌∷◌, 
 use Rattle.std.specs.List.{flat_map}
 use Rattle.serde_json.specs.Written.{compact_text}
 use Rattle.json_text.specs.Written.{shown_data}
-use Rattle.world.specs.Replay.{TaggedShop, after_all, answers_to, opening}
-use Rattle.world.specs.SeenTicket.{ticket_seen}
-use Rattle.world.specs.Shop.{PlainState}
-use Rattle.world.specs.ShopMarks.{shop_marks}
+use Rattle.plain_shop.specs.Replay.{TaggedShop, after_all, answers_to, opening}
+use Rattle.plain_shop.specs.SeenTicket.{ticket_seen}
+use Rattle.plain_shop.specs.Shop.{PlainState}
+use Rattle.plain_shop.specs.Marks.{shop_marks}
 use Rattle.world_items.specs.declared.answer.Answer.{Answer}
 use Rattle.world_items.specs.declared.event.Event.{Event}
 use Rattle.world_script.specs.AnswerText.{answer_text}

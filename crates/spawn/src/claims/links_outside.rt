@@ -5,7 +5,7 @@ ghost use Rattle.ticket_items.specs.Ids.{mem};
 ghost use Rattle.ticket_rows.specs.Place.{places};
 ghost use Rattle.ticket_rows.specs.Ticket.{IsValid, has_node};
 ghost use Rattle.ticket_tree.specs.At.{rows_below};
-ghost use Rattle.spawn.specs.Claim.{ids_of, linked_outside};
+ghost use Rattle.plain_shop.specs.Claim.{ids_of, linked_outside};
 
 use ticket_tree::{Id, Rows, Ticket, is_linked};
 

@@ -8,7 +8,7 @@ ghost use Rattle.ticket_items.specs.Ids.{mem};
 ghost use Rattle.ticket_rows.specs.Place.{node_places, places, up};
 ghost use Rattle.ticket_rows.specs.Ticket.{IsValid, first_of, has_node, unless};
 ghost use Rattle.ticket_tree.specs.At.{rows_below};
-ghost use Rattle.spawn.specs.Claim.{ids_of, linked_outside};
+ghost use Rattle.plain_shop.specs.Claim.{ids_of, linked_outside};
 ghost use Rattle.spawn.specs.Holdings.{IsTable};
 ghost use Rattle.spawn.specs.Spawning as spawning;
 

@@ -17,12 +17,12 @@ ghost use Rattle.spawn.specs.declared.records.spawn_rec.SpawnRec.{SpawnRec};
 
 use crate::claims::claimed::claim_of;
 use crate::records::spawn_rec::SpawnRec;
-use crate::tables::holder::Holder;
 use crate::tables::table::stands;
 use std::alloc::{AllocError, Global};
 use std::collections::BTreeMap;
 use std::marker::Model;
 use ticket_tree::{Duplicate, Id, Resource, Rows, SpawnId, Ticket};
+use world_items::Holder;
 
 /// Who holds each id of a ticket: the same as `holder_of`, without a walk. Kept of it are the ids
 /// that spawns hold, in step with the ticket and the records by whoever changes those. They are in

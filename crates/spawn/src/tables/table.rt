@@ -7,9 +7,9 @@ ghost use Rattle.ticket_rows.specs.Ticket.{IsValid, ids};
 ghost use Rattle.spawn.specs.Table as table;
 
 use crate::records::spawn_rec::SpawnRec;
-use crate::tables::holder::Holder;
 use crate::tables::holding::holding_record;
 use ticket_tree::{Id, Ticket};
+use world_items::Holder;
 
 /// The node that an id names, or in whose pool the resource is that it names.
 fn stand_of<'a>(ticket: &'a Ticket, id: &'a Id) -> Option<&'a Id>

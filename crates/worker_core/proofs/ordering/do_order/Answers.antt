@@ -6,8 +6,8 @@ use Rattle.controller.proofs.Answered.{free_makes}
 use Rattle.controller.specs.Step.{Makes, Step}
 use Rattle.controller.specs.declared.done.Done.{Done}
 use Rattle.controller.specs.declared.message.Message.{Message}
-use Rattle.controller.specs.declared.reply.Reply.{Reply}
-use Rattle.controller.specs.declared.reply.Reply.TheVariants as reply
+use Rattle.world_items.specs.declared.reply.Reply.{Reply}
+use Rattle.world_items.specs.declared.reply.Reply.TheVariants as reply
 use Rattle.ticket_items.specs.declared.edit.Edit.{Edit}
 use Rattle.worker_core.proofs.AtNumber.{found_there, write_at_number}
 use Rattle.worker_core.proofs.Kept.{number_of}
@@ -18,9 +18,9 @@ use Rattle.worker_core.specs.Numbers.{are_distinct_numbers}
 use Rattle.worker_core.specs.Orders.{allowed_step, edited_entry, finished_entry, order_refusal, order_step, return_of, spawn_of_order, work_refusal}
 use Rattle.worker_core.specs.SpawnIndex.{IsSpawnIndex}
 use Rattle.worker_core.specs.Worker.{State, is_of, numbers, state}
-use Rattle.worker_core.specs.declared.end.End.{End}
+use Rattle.world_items.specs.declared.end.End.{End}
 use Rattle.worker_core.specs.declared.entry.Entry.{Entry}
-use Rattle.worker_core.specs.declared.order.Order.TheVariants as order
+use Rattle.world_items.specs.declared.worker_order.Order.TheVariants as order
 use Rattle.worker_core.proofs.ordering.do_order.Goals as goal
 use Rattle.worker_core.proofs.ordering.do_order.Goals.{in-Edit, in-Finish, in-Resend}
 

@@ -1,7 +1,7 @@
 use Rattle.std.proofs.Common.{◌∙◌, ap}
 use Rattle.stored_state.proofs.MessageTexts.{sent_back, sent_text}
 use Rattle.stored_state.specs.Cause.{step_on}
-use Rattle.world.specs.Settling.{number_of, with_sent}
+use Rattle.plain_shop.specs.Settling.{number_of, with_sent}
 use Rattle.world_items.specs.Word.{word_of}
 use Rattle.world.proofs.stepping.steps_on.Goals as goal
 

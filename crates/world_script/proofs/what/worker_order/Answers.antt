@@ -4,7 +4,7 @@ use Rattle.ticket_items.specs.Names.{is_name}
 use Rattle.ticket_items.specs.declared.refusal.Refusal.{Refusal}
 use Rattle.json_items.proofs.Mapped.{mapped}
 use Rattle.json_items.specs.Validation.{both_read, first_fault, on_both}
-use Rattle.worker_core.specs.declared.order.Order.{Order}
+use Rattle.world_items.specs.declared.worker_order.Order.{Order}
 use Rattle.controller_form.specs.Orders.WorkerForm.{order_has_names, order_has_texts, worker_order_form}
 use Rattle.world_items.specs.declared.what.What.{What}
 use Rattle.world_items.specs.declared.what.What.TheVariants.{WorkerOrder}

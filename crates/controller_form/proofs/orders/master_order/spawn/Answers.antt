@@ -12,8 +12,8 @@ use Rattle.json_items.proofs.Tests.{all_true}
 use Rattle.json_items.specs.Validation.{checked_fault, first_fault, on_both}
 use Rattle.json_items.specs.Listed.{list_form}
 use Rattle.json_items.specs.Members.{three_form}
-use Rattle.master_core.specs.declared.order.Order.{Order}
-use Rattle.master_core.specs.declared.order.Order.TheVariants.{Spawn}
+use Rattle.world_items.specs.declared.master_order.Order.{Order}
+use Rattle.world_items.specs.declared.master_order.Order.TheVariants.{Spawn}
 use Rattle.controller_form.specs.Orders.MasterForm.{order_has_names, order_has_texts, spawn_form, spawn_members}
 use Rattle.controller_form.proofs.Together.{three_together}
 use Rattle.controller_form.proofs.orders.master_order.spawn.Goals as goal

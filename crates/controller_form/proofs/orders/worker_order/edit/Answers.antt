@@ -11,8 +11,8 @@ use Rattle.json_items.proofs.Faults.{two_together}
 use Rattle.json_items.proofs.Mapped.{mapped}
 use Rattle.json_items.specs.Edits.{edit_form as form_of_edit, edit_has_names, edit_has_texts}
 use Rattle.json_items.specs.Validation.{both_read, first_fault, on_both}
-use Rattle.worker_core.specs.declared.order.Order.{Order}
-use Rattle.worker_core.specs.declared.order.Order.TheVariants.{Edit}
+use Rattle.world_items.specs.declared.worker_order.Order.{Order}
+use Rattle.world_items.specs.declared.worker_order.Order.TheVariants.{Edit}
 use Rattle.controller_form.specs.Orders.KnownSpawn.{spawn_under}
 use Rattle.controller_form.specs.Orders.WorkerForm.{edit_form, edit_members, order_has_names, order_has_texts}
 use Rattle.controller_form.proofs.orders.worker_order.edit.Goals as goal

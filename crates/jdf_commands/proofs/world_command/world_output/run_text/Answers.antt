@@ -1,7 +1,7 @@
 use Rattle.std.proofs.Common.{◌≡◌, ◌∙◌, ◌∷◌, ◌++◌, [], ap}
 use Rattle.serde_json.specs.Written.{compact_text}
 use Rattle.json_text.specs.Written.{shown_data}
-use Rattle.world.specs.Replay.{TaggedShop, answers_to}
+use Rattle.plain_shop.specs.Replay.{TaggedShop, answers_to}
 use Rattle.world.specs.Showing.{shows}
 use Rattle.jdf_commands.specs.WorldCommand.Run.{lines, shown_text}
 use Rattle.jdf_commands.proofs.world_command.world_output.run_text.Goals as goal

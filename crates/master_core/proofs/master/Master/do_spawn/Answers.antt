@@ -7,7 +7,7 @@ use Rattle.spawn.specs.Spawning.{spawn_refusal}
 use Rattle.master_core.proofs.Passing.{behind_test}
 use Rattle.master_core.specs.Master.{next_number}
 use Rattle.master_core.specs.Orders.{allowed_step}
-use Rattle.master_core.specs.declared.order.Order.TheVariants.{Spawn}
+use Rattle.world_items.specs.declared.master_order.Order.TheVariants.{Spawn}
 use Rattle.master_core.proofs.master.Master.do_spawn.Goals as goal
 
 pub returns : goal.returns

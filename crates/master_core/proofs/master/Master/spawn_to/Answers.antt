@@ -3,7 +3,7 @@ use Rattle.ticket_items.specs.Ids.{mem}
 use Rattle.ticket_items.specs.SpawnId.{is_spawn_number}
 use Rattle.ticket_items.specs.declared.refusal.Refusal.TheVariants.{UnknownWorker}
 use Rattle.controller.specs.declared.body.Body.TheVariants.{Submit}
-use Rattle.controller.specs.declared.reply.Reply.TheVariants.{Spawned}
+use Rattle.world_items.specs.declared.reply.Reply.TheVariants.{Spawned}
 use Rattle.spawn.proofs.PartKept.{allowed}
 use Rattle.spawn.specs.Holdings.{IsTable}
 use Rattle.spawn.specs.Parts.{part_for}
@@ -13,7 +13,7 @@ use Rattle.master_core.proofs.OrderKept.{ordered_kept}
 use Rattle.master_core.proofs.Passing.{behind_test, refused_through, went_free}
 use Rattle.master_core.specs.Master.{IsInStep, State, next_number, state}
 use Rattle.master_core.specs.Orders.{allowed_step, next_record, order_refusal}
-use Rattle.master_core.specs.declared.order.Order.TheVariants.{Spawn}
+use Rattle.world_items.specs.declared.master_order.Order.TheVariants.{Spawn}
 use Rattle.master_core.proofs.master.Master.spawn_to.Goals as goal
 use Rattle.master_core.proofs.master.Master.spawn_to.Goals.{In_ok-id}
 

@@ -2,7 +2,7 @@ use Rattle.std.proofs.Common.{◌≡◌, drop}
 use Rattle.std.specs.List.{list_all}
 use Rattle.ticket_items.specs.Ids.{mem}
 use Rattle.ticket_rows.specs.Place.{places}
-use Rattle.spawn.specs.Claim.{ids_of, linked_outside}
+use Rattle.plain_shop.specs.Claim.{ids_of, linked_outside}
 use Rattle.spawn.proofs.spawns.refusing.are_linked_outside.Given as goal
 
 -- those so far are

@@ -1,7 +1,7 @@
 use Rattle.std.proofs.Common.{◌∙◌, Some, sym, ap}
 use Rattle.std.specs.Option.{option_map_or}
 use Rattle.spawn.proofs.Holding.{held, unheld}
-use Rattle.spawn.specs.declared.tables.holder.Holder.TheVariants.{Master, Spawn}
+use Rattle.world_items.specs.declared.holder.Holder.TheVariants.{Master, Spawn}
 use Rattle.spawn.proofs.tables.table.holder_of.Goals as goal
 
 pub returns-in_err-node : goal.returns-in_err-node

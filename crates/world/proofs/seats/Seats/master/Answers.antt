@@ -4,8 +4,8 @@ use Rattle.master_core.specs.Master.{State as MasterState}
 use Rattle.world.proofs.Answered.{if_some}
 use Rattle.world.proofs.MarksShown.{marks_are_shown}
 use Rattle.world.proofs.TicketSeen.{ticket_is_seen}
-use Rattle.world.specs.SeenTicket.{ticket_seen}
-use Rattle.world.specs.ShopMarks.{shop_marks}
+use Rattle.plain_shop.specs.SeenTicket.{ticket_seen}
+use Rattle.plain_shop.specs.Marks.{shop_marks}
 use Rattle.world.specs.Showing.{shop_shown}
 use Rattle.world.specs.State.{State, state}
 use Rattle.world.proofs.seats.Seats.master.Goals as goal

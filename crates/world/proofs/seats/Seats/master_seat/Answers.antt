@@ -2,8 +2,8 @@ use Rattle.std.proofs.Common.{◌≡◌, map, subst, sym}
 use Rattle.spawn.specs.Marking.{marks}
 use Rattle.world.proofs.MarksShown.{marks_are_shown}
 use Rattle.world.proofs.TicketSeen.{ticket_is_seen}
-use Rattle.world.specs.SeenTicket.{ticket_seen}
-use Rattle.world.specs.ShopMarks.{shop_marks}
+use Rattle.plain_shop.specs.SeenTicket.{ticket_seen}
+use Rattle.plain_shop.specs.Marks.{shop_marks}
 use Rattle.world.specs.Showing.{shop_shown}
 use Rattle.world.specs.State.{State, state}
 use Rattle.world.proofs.seats.Seats.master_seat.Goals as goal

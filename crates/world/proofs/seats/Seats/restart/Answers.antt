@@ -6,7 +6,7 @@ use Rattle.world.proofs.Restarts.{none_restarts, worker_restarts}
 use Rattle.world.proofs.Seated.{map-get_or, place_seen, same_there}
 use Rattle.world.proofs.WorkerPlaces.{StandsAt, found, none_there, stands_at}
 use Rattle.world.specs.Happening.{is_reached, restart_word}
-use Rattle.world.specs.Settling.{answer_without_step}
+use Rattle.plain_shop.specs.Settling.{answer_without_step}
 use Rattle.world.specs.State.{IsConsistent, State, state}
 use Rattle.world_items.specs.declared.word.Word.TheVariants.{Restarted}
 use Rattle.world.proofs.seats.Seats.restart.Goals as goal

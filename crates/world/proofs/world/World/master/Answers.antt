@@ -1,8 +1,8 @@
 use Rattle.std.proofs.Common.{◌∙◌, ap}
 use Rattle.spawn.specs.Marking.{marks}
 use Rattle.master_core.specs.Master.{State as MasterState}
-use Rattle.world.specs.SeenTicket.{ticket_seen}
-use Rattle.world.specs.ShopMarks.{shop_marks}
+use Rattle.plain_shop.specs.SeenTicket.{ticket_seen}
+use Rattle.plain_shop.specs.Marks.{shop_marks}
 use Rattle.world.specs.Showing.{shows}
 use Rattle.world.specs.State.{State}
 use Rattle.world.proofs.world.World.master.Goals as goal

@@ -4,8 +4,8 @@ use Rattle.world.proofs.Answered.{if_ok_by, on_err_by}
 use Rattle.world.proofs.Replayed.{cut_before}
 use Rattle.world.proofs.Unknown.{err_by}
 use Rattle.world.specs.Happening as happening
-use Rattle.world.specs.MergeAudits.{MergeAuditsMatch}
-use Rattle.world.specs.Replay as replay
+use Rattle.plain_shop.specs.MergeAudits.{MergeAuditsMatch}
+use Rattle.plain_shop.specs.Replay as replay
 use Rattle.world.specs.Showing.{shows}
 use Rattle.world.specs.State.{State, opening}
 use Rattle.world.proofs.world.World.run.Goals as goal

@@ -1,7 +1,7 @@
 use Rattle.std.proofs.Common.{◌∙◌, ap, sym}
 use Rattle.std.specs.Bool.{then_some}
 use Rattle.spawn.proofs.Holding.{masters, spawns}
-use Rattle.spawn.specs.declared.tables.holder.Holder.TheVariants.{Master}
+use Rattle.world_items.specs.declared.holder.Holder.TheVariants.{Master}
 use Rattle.spawn.proofs.tables.holders.Holders.holder_of.Goals as goal
 
 pub returns-in-Some : goal.returns-in-Some

@@ -7,8 +7,8 @@ use Rattle.ticket_items.specs.declared.marks.Marks.{Marks}
 use Rattle.ticket_items.specs.declared.res_mark.ResMark.{ResMark}
 use Rattle.ticket_items.specs.declared.spawn_status.SpawnStatus.TheVariants.{SpawnedRO, SpawnedRW}
 use Rattle.ticket_rows.specs.Place.{Place, nodes_in, resources_in}
-use Rattle.spawn.specs.Claim.{ids_of, linked_ro}
-use Rattle.world.specs.Shop.{PlainState, SpawnState, is_out}
+use Rattle.plain_shop.specs.Claim.{ids_of, linked_ro}
+use Rattle.plain_shop.specs.Shop.{PlainState, SpawnState, is_out}
 
 -- the spawns whose part is still to be put in, or to be taken back
 abbrev pub spawns_out : PlainState → List SpawnState

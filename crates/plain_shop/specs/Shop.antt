@@ -2,7 +2,7 @@
 use Rattle.std.specs.Prelude.{ℕ, suc, ◌==◌, Bool, true, false, List, length, Option}
 use Rattle.std.specs.List.{find}
 use Rattle.ticket_rows.specs.Place.{Place, Row}
-use Rattle.spawn.specs.declared.tables.holder.Holder.{Holder}
+use Rattle.world_items.specs.declared.holder.Holder.{Holder}
 
 -- how far a spawn has come: its part is on the way to the worker, is worked on, is finished, was
 -- put in, or was put in and the worker has given it up; or the worker declined it before any work,

@@ -5,14 +5,14 @@ use Rattle.std.specs.Str.{bytes_eq}
 use Rattle.ticket_items.specs.Ids.{mem}
 use Rattle.ticket_items.specs.declared.refusal.Refusal.TheVariants.{UnknownWorker}
 use Rattle.ticket_rows.specs.Ticket.{Job}
-use Rattle.worker_core.specs.declared.order.Order as worker_order
-use Rattle.world.specs.Running as running
-use Rattle.world.specs.Running.{Machine}
-use Rattle.world.specs.Shop.{PlainState}
-use Rattle.world.specs.ShopActs as acts
-use Rattle.world.specs.ShopSteps.{Tag, master_does, on_message, worker_does}
-use Rattle.world.specs.State.{message_at}
-use Rattle.world.specs.Step.{StepOrWord}
+use Rattle.world_items.specs.declared.worker_order.Order as worker_order
+use Rattle.plain_shop.specs.Running as running
+use Rattle.plain_shop.specs.Running.{Machine}
+use Rattle.plain_shop.specs.Shop.{PlainState}
+use Rattle.plain_shop.specs.Acts as acts
+use Rattle.plain_shop.specs.Steps.{Tag, master_does, on_message, worker_does}
+use Rattle.plain_shop.specs.Settling.{message_at}
+use Rattle.plain_shop.specs.Step.{StepOrWord}
 use Rattle.world_items.specs.declared.answer.Answer.{Answer}
 use Rattle.world_items.specs.declared.event.Event.{Event}
 use Rattle.world_items.specs.declared.stop.Stop.{Stop}

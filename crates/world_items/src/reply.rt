@@ -35,7 +35,7 @@ pub enum Reply {
 
 impl Reply {
     ghost use Rattle.std.specs.Prelude.{◌≡◌};
-    ghost use Rattle.controller.specs.Reply as replies;
+    ghost use Rattle.world_items.specs.Reply as replies;
 
     /// Its word.
     pub fn word(self) -> &'static str

@@ -1,6 +1,6 @@
 -- What is left of a step, by where its controller stops: whether its state is stored, and whether
 -- its message is sent. The same for any kind of state and of message.
-use Rattle.std.specs.Prelude.{ℕ, suc, List, [], ◌∷◌, ◌++◌, length, Option, None}
+use Rattle.std.specs.Prelude.{ℕ, zero, suc, List, [], ◌∷◌, ◌++◌, length, slice_get, Option, None}
 use Rattle.std.specs.Option.{option_map, option_map_or}
 use Rattle.world_items.specs.declared.answer.Answer.{Answer}
 use Rattle.world_items.specs.declared.stop.Stop.{Stop}
@@ -39,3 +39,8 @@ abbrev pub messages_left : {M : Type 0} → Stop → List M → Option M → Lis
 messages_left Run messages sent = with_sent messages sent
 messages_left BeforeSave messages sent = messages
 messages_left BeforeSend messages sent = messages
+
+-- the message of a number. The first has the number 1
+abbrev pub message_at : {M : Type 0} → List M → ℕ → Option M
+message_at messages zero = None
+message_at messages (suc k) = slice_get messages k

@@ -12,13 +12,13 @@ use Rattle.ticket_items.specs.Edit.{added_id}
 use Rattle.ticket_rows.specs.Place.{Place, nodes_in, place_at, places, row_in, up}
 use Rattle.ticket_rows.specs.Ticket.{Job}
 use Rattle.ticket_tree.specs.PlainEdit.{plain_places, plain_rows, stands, with_row_changed}
-use Rattle.spawn.specs.Claim.{ids_of, is_claimed, linked_ro, linked_rw}
-use Rattle.spawn.specs.declared.tables.holder.Holder.{Holder}
-use Rattle.spawn.specs.declared.tables.holder.Holder.TheVariants.{Master, Spawn}
-use Rattle.worker_core.specs.Worker.{end_word}
-use Rattle.worker_core.specs.declared.end.End.{End}
-use Rattle.world.specs.Shop.{Away, Closed, Declined, Done, Holders, Merged, Open, Phase, Rows}
-use Rattle.world.specs.Shop.{PlainState, SpawnState, Withdrawn, has_number, next_number}
+use Rattle.plain_shop.specs.Claim.{ids_of, is_claimed, linked_ro, linked_rw}
+use Rattle.world_items.specs.declared.holder.Holder.{Holder}
+use Rattle.world_items.specs.declared.holder.Holder.TheVariants.{Master, Spawn}
+use Rattle.world_items.specs.End.{end_word}
+use Rattle.world_items.specs.declared.end.End.{End}
+use Rattle.plain_shop.specs.Shop.{Away, Closed, Declined, Done, Holders, Merged, Open, Phase, Rows}
+use Rattle.plain_shop.specs.Shop.{PlainState, SpawnState, Withdrawn, has_number, next_number}
 
 -- ---- in the beginning
 

@@ -20,24 +20,23 @@ use Rattle.ticket_rows.specs.EditRefusal.{later_refusal, unknown_refusal}
 use Rattle.ticket_rows.specs.Place.{nodes_in, resources_in, up}
 use Rattle.ticket_rows.specs.Ticket.{first_of, unless}
 use Rattle.ticket_tree.specs.PlainEdit.{plain_lookups, stands}
-use Rattle.controller.specs.declared.reply.Reply.{Reply}
-use Rattle.controller.specs.declared.reply.Reply.TheVariants as reply
-use Rattle.spawn.specs.Claim.{claim, ids_of, linked_outside, linked_ro}
-use Rattle.master_core.specs.Orders.{held_refusal}
-use Rattle.master_core.specs.declared.order.Order as master_order
-use Rattle.master_core.specs.declared.order.Order.TheVariants as to_master
-use Rattle.worker_core.specs.Orders.{spawn_of_order}
-use Rattle.worker_core.specs.declared.end.End.TheVariants.{Aborted}
-use Rattle.worker_core.specs.declared.order.Order as worker_order
-use Rattle.worker_core.specs.declared.order.Order.TheVariants as to_worker
-use Rattle.world.specs.Shop.{Phase, PlainState, SpawnState, has_number, is_away, is_closed}
-use Rattle.world.specs.Shop.{is_declined}
-use Rattle.world.specs.Shop.{is_done, is_merged, is_open, is_out, is_taken, next_number, spawn_of}
-use Rattle.world.specs.ShopActs.{after_close, after_decline, after_edit, after_finish, after_merge}
-use Rattle.world.specs.ShopActs.{after_withdrawal, is_held_by}
-use Rattle.world.specs.ShopActs.{after_spawn, after_taking, after_work}
-use Rattle.controller.specs.Step.{Step, refused_step, unless_refused}
-use Rattle.world.specs.Step.{StepOrWord}
+use Rattle.world_items.specs.declared.reply.Reply.{Reply}
+use Rattle.world_items.specs.declared.reply.Reply.TheVariants as reply
+use Rattle.plain_shop.specs.Claim.{claim, ids_of, linked_outside, linked_ro}
+use Rattle.world_items.specs.Holder.{held_refusal}
+use Rattle.world_items.specs.declared.master_order.Order as master_order
+use Rattle.world_items.specs.declared.master_order.Order.TheVariants as to_master
+use Rattle.world_items.specs.WorkerOrder.{spawn_of_order}
+use Rattle.world_items.specs.declared.end.End.TheVariants.{Aborted}
+use Rattle.world_items.specs.declared.worker_order.Order as worker_order
+use Rattle.world_items.specs.declared.worker_order.Order.TheVariants as to_worker
+use Rattle.plain_shop.specs.Shop.{Phase, PlainState, SpawnState, has_number, is_away, is_closed}
+use Rattle.plain_shop.specs.Shop.{is_declined}
+use Rattle.plain_shop.specs.Shop.{is_done, is_merged, is_open, is_out, is_taken, next_number, spawn_of}
+use Rattle.plain_shop.specs.Acts.{after_close, after_decline, after_edit, after_finish, after_merge}
+use Rattle.plain_shop.specs.Acts.{after_withdrawal, is_held_by}
+use Rattle.plain_shop.specs.Acts.{after_spawn, after_taking, after_work}
+use Rattle.plain_shop.specs.Step.{Step, StepOrWord, refused_step, unless_refused}
 use Rattle.world_items.specs.declared.word.Word.TheVariants.{NoMessage}
 
 -- a message that was sent, without what it says: a part goes out, or comes back, or a worker is to

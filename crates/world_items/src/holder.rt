@@ -1,5 +1,5 @@
 ghost use Rattle.std.specs.Prelude.{◌≡◌};
-ghost use Rattle.spawn.specs.Table as table;
+ghost use Rattle.world_items.specs.Holder as holders;
 
 use ticket_tree::SpawnId;
 
@@ -13,8 +13,9 @@ pub enum Holder {
 
 impl Holder {
     /// The spawn, if it isn't the master.
-    pub(crate) fn as_spawn(self) -> Option<SpawnId>
-        ensures { result ≡ table.as_spawn self }
+    pub fn as_spawn(self) -> Option<SpawnId>
+        // Proved: A holder is the master or a spawn.
+        ensures { result ≡ holders.as_spawn self }
     {
         match self {
             Holder::Master => None,

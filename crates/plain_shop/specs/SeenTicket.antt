@@ -7,7 +7,7 @@ use Rattle.ticket_items.specs.declared.resource.Resource.{Resource}
 use Rattle.ticket_rows.specs.Place.{Place, Row, Thing, node, resource}
 use Rattle.ticket_rows.specs.Ticket.{Job}
 use Rattle.ticket_tree.specs.PlainEdit.{is_at}
-use Rattle.world.specs.Shop.{PlainState, Rows}
+use Rattle.plain_shop.specs.Shop.{PlainState, Rows}
 
 -- a resource, from what no worker may change of it and what may change. A node is none
 abbrev pub as_resource : List ℕ → Thing → Row → Option Resource

@@ -8,9 +8,9 @@ use Rattle.ticket_items.specs.declared.audit.Audit.{Audit}
 use Rattle.ticket_items.specs.declared.audit.Audit.TheVariants as audit
 use Rattle.ticket_rows.specs.Place.{Row, nodes_in, row_in, up}
 use Rattle.ticket_rows.specs.Ticket.{Job}
-use Rattle.controller.specs.declared.reply.Reply.{Reply}
-use Rattle.controller.specs.declared.reply.Reply.TheVariants.{Merged}
-use Rattle.world.specs.Shop.{PlainState, spawn_of}
+use Rattle.world_items.specs.declared.reply.Reply.{Reply}
+use Rattle.world_items.specs.declared.reply.Reply.TheVariants.{Merged}
+use Rattle.plain_shop.specs.Shop.{PlainState, spawn_of}
 use Rattle.world_items.specs.declared.answer.Answer.{Answer}
 use Rattle.world_items.specs.declared.word.Word.{Word}
 use Rattle.world_items.specs.declared.word.Word.TheVariants.{Did}

@@ -14,7 +14,7 @@ pub enum Order {
 
 impl Order {
     ghost use Rattle.std.specs.Prelude.{◌≡◌};
-    ghost use Rattle.worker_core.specs.Orders as orders;
+    ghost use Rattle.world_items.specs.WorkerOrder as orders;
 
     /// The spawn that it is about.
     pub fn spawn(&self) -> SpawnId

@@ -1,0 +1,13 @@
+pub mod Claim
+pub mod Shop
+pub mod Acts
+pub mod Step
+pub mod Steps
+pub mod Settling
+pub mod Running
+pub mod Replay
+pub mod SeenTicket
+pub mod Marks
+pub mod Holding
+pub mod Once
+pub mod MergeAudits
