@@ -30,6 +30,7 @@ pub trait Controller: Drop {
 
     /// Its name.
     fn name(&self) -> &Id
+        // Proved: A controller tells its name.
         ensures { result.now ≡ own_name self.now };
 
     /// Does what it is told, at a time in seconds since 1970. Refuses what doesn't hold of its

@@ -39,6 +39,8 @@ impl Reply {
 
     /// Its word.
     pub fn word(self) -> &'static str
+        // Proved: A reply has its word, and tells its spawn.
+        // By `Reply::spawn`.
         ensures { result.now ≡ replies.word_of self }
     {
         match self {
@@ -61,8 +63,6 @@ impl Reply {
 
     /// The spawn that it tells of. That something is edited tells of none.
     pub fn spawn(self) -> Option<SpawnId>
-        // Proved: A reply tells its spawn, and a controller its name.
-        // By `Controller::name`.
         ensures { result ≡ replies.spawn_of_reply self }
     {
         match self {
