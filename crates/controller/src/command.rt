@@ -16,9 +16,8 @@ impl Command {
 
     /// The command of a Type.
     pub fn of_type(kind: &str) -> Option<Command>
-        // Proved: Words name commands, Statuses and replies.
-        // By `Command::word`, `Command::mark`, `QueueStatus::of_word`, `QueueStatus::word`,
-        // `Reply::word`.
+        // Proved: Words name commands and Statuses.
+        // By `Command::word`, `Command::mark`, `QueueStatus::of_word`, `QueueStatus::word`.
         ensures { result ≡ command_named kind.now }
     {
         if kind == "SubmitQueueEntry" {

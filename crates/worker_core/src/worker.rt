@@ -144,7 +144,7 @@ impl Worker {
     /// refuses `Memory`. A refusal changes nothing.
     pub fn order(&mut self, alloc: Global, order: Order, at: u64) -> Result<Done, Refusal>
         // Proved: An order does just what it says to one entry, and what goes back is told.
-        // By `ok`, `err`; `Order::spawn`.
+        // By `ok`, `err`.
         ensures ok { IfOk result
             (λ done. done_step done self.new ≡ orders.order_step order at self.old) }
         ensures err { OnErr result (self.new ≡ self.old) }

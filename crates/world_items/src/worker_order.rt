@@ -18,6 +18,7 @@ impl Order {
 
     /// The spawn that it is about.
     pub fn spawn(&self) -> SpawnId
+        // Proved: An order to a worker tells the spawn that it is about.
         ensures { result ≡ orders.spawn_of_order self.now }
     {
         match self {
