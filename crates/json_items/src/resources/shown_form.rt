@@ -106,7 +106,7 @@ impl Form for Showing {
 
     ghost has_texts = { λ _. true };
 
-    #[tactic(auto, unfolding(crate::specs::Shown::shown_draft), using(crate::proofs::Tests::all_true))]
+    #[tactic(auto, unfolding(crate::specs::Shown::shown_form), using(crate::proofs::Tests::all_true))]
     fn find<S: Source>(alloc: Global, value: &S) -> Result<Validation<Showing>, Refusal> {
         Ok(Ok(Showing {
             locked: find_or(alloc, value, "Locked", false)??,
