@@ -2,7 +2,7 @@ use Rattle.std.proofs.Common.{◌++◌, ◌∷◌, [], refl, rules, subst, sym}
 use Rattle.std.proofs.lemmas.Iterator.Adapters.{YieldsList-from_vec}
 use Rattle.jdf_loop.specs.Shop.{StepsAll}
 use Rattle.jdf_loop.proofs.AllEvents.{one_more}
-use Rattle.world.proofs.Runs.{all_of}
+use Rattle.world.proofs.Runs.SoFar.{all_of}
 use Rattle.jdf_loop.proofs.command.run_events.Goals as goal
 
 pub loop-event-init : goal.loop-event-init

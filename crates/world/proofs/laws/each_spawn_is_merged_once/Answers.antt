@@ -1,4 +1,4 @@
-use Rattle.world.proofs.Once.{each_is_merged_once}
+use Rattle.world.proofs.Shop.Once.{each_is_merged_once}
 use Rattle.world.proofs.laws.each_spawn_is_merged_once.Goals as goal
 
 pub returns : goal.returns

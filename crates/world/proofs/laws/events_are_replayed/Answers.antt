@@ -1,4 +1,4 @@
-use Rattle.world.proofs.Events.{events_are_replayed}
+use Rattle.world.proofs.Runs.Events.{events_are_replayed}
 use Rattle.world.proofs.laws.events_are_replayed.Goals as goal
 
 pub returns : goal.returns

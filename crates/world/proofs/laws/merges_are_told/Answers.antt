@@ -1,4 +1,4 @@
-use Rattle.world.proofs.MergesTold.{merges_are_told}
+use Rattle.world.proofs.Shop.MergesTold.{merges_are_told}
 use Rattle.world.proofs.laws.merges_are_told.Goals as goal
 
 pub returns : goal.returns

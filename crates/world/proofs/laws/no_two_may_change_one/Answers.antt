@@ -1,4 +1,4 @@
-use Rattle.world.proofs.Changing.{no_two_may_change_one}
+use Rattle.world.proofs.Shop.Changing.{no_two_may_change_one}
 use Rattle.world.proofs.laws.no_two_may_change_one.Goals as goal
 
 pub returns : goal.returns

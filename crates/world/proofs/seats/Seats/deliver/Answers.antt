@@ -2,11 +2,11 @@ use Rattle.std.proofs.Common.{◌≡◌, ◌∙◌, false, IfOk, OnErr, OnOk, So
 use Rattle.std.proofs.lemmas.Bool.{true≢false}
 use Rattle.std.specs.List.{position}
 use Rattle.std.specs.Str.{bytes_eq}
-use Rattle.world.proofs.AlwaysKept.{message_there}
-use Rattle.world.proofs.Answered.{on_err}
-use Rattle.world.proofs.Seated.{place_seen}
-use Rattle.world.proofs.Unknown.{err_by, not_made}
-use Rattle.world.proofs.NeedsNoMemory.{comes, comes_to_master, comes_to_worker, no_message}
+use Rattle.world.proofs.Shop.AlwaysKept.{message_there}
+use Rattle.world.proofs.Runs.Answered.{on_err}
+use Rattle.world.proofs.Runs.Seated.{place_seen}
+use Rattle.world.proofs.Runs.Unknown.{err_by, not_made}
+use Rattle.world.proofs.Runs.NeedsNoMemory.{comes, comes_to_master, comes_to_worker, no_message}
 use Rattle.world.specs.Happening.{IsUnknown, delivery_step, next_answer, next_state}
 use Rattle.world.specs.State.{IsConsistent, State, is_named, message_at}
 use Rattle.world.proofs.seats.Seats.deliver.Goals as goal

@@ -1,9 +1,9 @@
 use Rattle.std.proofs.Common.{◌≡◌, ◌∙◌, ap, map, subst, sym}
 use Rattle.spawn.specs.Marking.{marks}
 use Rattle.master_core.specs.Master.{State as MasterState}
-use Rattle.world.proofs.Answered.{if_some}
-use Rattle.world.proofs.MarksShown.{marks_are_shown}
-use Rattle.world.proofs.TicketSeen.{ticket_is_seen}
+use Rattle.world.proofs.Runs.Answered.{if_some}
+use Rattle.world.proofs.Master.MarksShown.{marks_are_shown}
+use Rattle.world.proofs.Master.TicketSeen.{ticket_is_seen}
 use Rattle.plain_shop.specs.SeenTicket.{ticket_seen}
 use Rattle.plain_shop.specs.Marks.{shop_marks}
 use Rattle.world.specs.Showing.{shop_shown}

@@ -1,7 +1,7 @@
 use Rattle.std.proofs.Common.{◌≡◌, map, subst, sym}
 use Rattle.spawn.specs.Marking.{marks}
-use Rattle.world.proofs.MarksShown.{marks_are_shown}
-use Rattle.world.proofs.TicketSeen.{ticket_is_seen}
+use Rattle.world.proofs.Master.MarksShown.{marks_are_shown}
+use Rattle.world.proofs.Master.TicketSeen.{ticket_is_seen}
 use Rattle.plain_shop.specs.SeenTicket.{ticket_seen}
 use Rattle.plain_shop.specs.Marks.{shop_marks}
 use Rattle.world.specs.Showing.{shop_shown}

@@ -1,5 +1,5 @@
 use Rattle.std.proofs.Common.{map, subst}
-use Rattle.world.proofs.Telling.{messages_told}
+use Rattle.world.proofs.Messages.Telling.{messages_told}
 use Rattle.world.specs.State.{State, state}
 use Rattle.world.specs.Telling.{AreTold}
 use Rattle.world.proofs.seats.Seats.messages.Goals as goal

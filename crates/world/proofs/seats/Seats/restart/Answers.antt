@@ -1,10 +1,10 @@
 use Rattle.std.proofs.Common.{◌≡◌, ◌∙◌, true, false, Err, ap, map, set, subst, sym, rules}
 use Rattle.std.proofs.lemmas.Bool.{true≢false}
 use Rattle.std.specs.Str.{bytes_eq}
-use Rattle.world.proofs.Answered.{on_err}
-use Rattle.world.proofs.Restarts.{none_restarts, worker_restarts}
-use Rattle.world.proofs.Seated.{map-get_or, place_seen, same_there}
-use Rattle.world.proofs.WorkerPlaces.{StandsAt, found, none_there, stands_at}
+use Rattle.world.proofs.Runs.Answered.{on_err}
+use Rattle.world.proofs.Runs.Restarts.{none_restarts, worker_restarts}
+use Rattle.world.proofs.Runs.Seated.{map-get_or, place_seen, same_there}
+use Rattle.world.proofs.Worker.Places.{StandsAt, found, none_there, stands_at}
 use Rattle.world.specs.Happening.{is_reached, restart_word}
 use Rattle.plain_shop.specs.Settling.{answer_without_step}
 use Rattle.world.specs.State.{IsConsistent, State, state}

@@ -1,13 +1,13 @@
 use Rattle.std.proofs.Common.{◌<◌, ◌∙◌, ap, arith, length, refl, rules, subst, sym}
 use Rattle.std.proofs.lemmas.Bool.{true≢false}
 use Rattle.std.proofs.lemmas.Iterator.Adapters.{YieldsList-from_vec}
-use Rattle.world.proofs.Answered.{on_err}
-use Rattle.world.proofs.Changing.{alone, by_holders, kept_then_all}
-use Rattle.world.proofs.MergesTold.{run_told}
-use Rattle.world.proofs.Once.{run_merges_once}
-use Rattle.world.proofs.Replayed.{all_said, all_shown}
-use Rattle.world.proofs.Stopped.{cut_first, cut_shown, some_there, stands_first}
-use Rattle.world.proofs.Runs.{all_of, cut_off, has_room, next_of, one_more, stands_before}
+use Rattle.world.proofs.Runs.Answered.{on_err}
+use Rattle.world.proofs.Shop.Changing.{alone, by_holders, kept_then_all}
+use Rattle.world.proofs.Shop.MergesTold.{run_told}
+use Rattle.world.proofs.Shop.Once.{run_merges_once}
+use Rattle.world.proofs.Runs.Replayed.{all_said, all_shown}
+use Rattle.world.proofs.Runs.Stopped.{cut_first, cut_shown, some_there, stands_first}
+use Rattle.world.proofs.Runs.SoFar.{all_of, cut_off, has_room, next_of, one_more, stands_before}
 use Rattle.world.specs.Happening.{after_all, answers_to, machine}
 use Rattle.world.specs.State.{IsConsistent}
 use Rattle.world.proofs.seats.Seats.run.Goals as goal

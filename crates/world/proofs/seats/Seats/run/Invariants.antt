@@ -1,4 +1,4 @@
-use Rattle.world.proofs.Runs.{IsSoFar}
+use Rattle.world.proofs.Runs.SoFar.{IsSoFar}
 use Rattle.world.specs.Happening.{machine}
 use Rattle.world.proofs.seats.Seats.run.Given as goal
 

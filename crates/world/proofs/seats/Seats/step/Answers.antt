@@ -1,11 +1,11 @@
 use Rattle.std.proofs.Common.{◌≡◌, ◌∙◌, IfOk, OnOk, ap, map, refl, subst, sym}
 use Rattle.std.specs.List.{position}
-use Rattle.world.proofs.Changing.{alone, by_holders, kept_then}
-use Rattle.world.proofs.Replayed.{said_so, shown_so}
-use Rattle.world.proofs.Stopped.{stop_so, stopped_so}
-use Rattle.world.proofs.Seated.{place_seen}
-use Rattle.world.proofs.Unknown.{err_by, unknown_same}
-use Rattle.world.proofs.NeedsNoMemory.{unplaced}
+use Rattle.world.proofs.Shop.Changing.{alone, by_holders, kept_then}
+use Rattle.world.proofs.Runs.Replayed.{said_so, shown_so}
+use Rattle.world.proofs.Runs.Stopped.{stop_so, stopped_so}
+use Rattle.world.proofs.Runs.Seated.{place_seen}
+use Rattle.world.proofs.Runs.Unknown.{err_by, unknown_same}
+use Rattle.world.proofs.Runs.NeedsNoMemory.{unplaced}
 use Rattle.ticket_items.specs.declared.refusal.Refusal.TheVariants.{UnknownWorker}
 use Rattle.stored_state.specs.declared.cause.StepInput.TheVariants.{Order}
 use Rattle.world.specs.Happening.{is_reached, next_answer, next_state, restart_word, step_of}

@@ -1,10 +1,10 @@
 use Rattle.std.proofs.Common.{◌≡◌, true, OnErr, ap, map, subst, sym, ◌∙◌}
 use Rattle.stored_state.specs.Cause.{step_on}
-use Rattle.world.proofs.AlwaysKept.{master_keeps}
-use Rattle.world.proofs.Answered.{on_ok}
-use Rattle.world.proofs.Kept.{master_kept}
-use Rattle.world.proofs.Settled.{master_settled}
-use Rattle.world.proofs.Unknown.{master_same, master_unknown}
+use Rattle.world.proofs.Shop.AlwaysKept.{master_keeps}
+use Rattle.world.proofs.Runs.Answered.{on_ok}
+use Rattle.world.proofs.Shop.Kept.{master_kept}
+use Rattle.world.proofs.Runs.Settled.{master_settled}
+use Rattle.world.proofs.Runs.Unknown.{master_same, master_unknown}
 use Rattle.world.specs.Happening.{ComesTo, IsUnknown, master_step, next_state}
 use Rattle.world.specs.State.{State, state}
 use Rattle.master_core.specs.Messages.{take_step as taken_by_master}

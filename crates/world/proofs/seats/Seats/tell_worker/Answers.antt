@@ -2,12 +2,12 @@ use Rattle.std.proofs.Common.{◌≡◌, ◌∙◌, true, OnErr, None, Some, ap,
 use Rattle.std.proofs.lemmas.Result.{IfOk-weaker}
 use Rattle.std.specs.List.{position}
 use Rattle.stored_state.specs.Cause.{step_on}
-use Rattle.world.proofs.AlwaysKept.{worker_keeps}
-use Rattle.world.proofs.Answered.{on_ok}
-use Rattle.world.proofs.Seated.{map-get_or, map-set}
-use Rattle.world.proofs.Settled.{found_answers, found_settled_as, found_settles, none_answers, none_settles}
-use Rattle.world.proofs.Unknown.{worker_same, worker_unknown}
-use Rattle.world.proofs.WorkerPlaces.{StandsAt, found, found_own, kept_there, name_of, none_there, settled_there}
+use Rattle.world.proofs.Shop.AlwaysKept.{worker_keeps}
+use Rattle.world.proofs.Runs.Answered.{on_ok}
+use Rattle.world.proofs.Runs.Seated.{map-get_or, map-set}
+use Rattle.world.proofs.Runs.Settled.{found_answers, found_settled_as, found_settles, none_answers, none_settles}
+use Rattle.world.proofs.Runs.Unknown.{worker_same, worker_unknown}
+use Rattle.world.proofs.Worker.Places.{StandsAt, found, found_own, kept_there, name_of, none_there, settled_there}
 use Rattle.world.specs.Happening.{ComesTo, IsUnknown, next_answer, next_state, worker_step}
 use Rattle.world.specs.State.{IsConsistent, State, is_named, state, worker_of}
 use Rattle.worker_core.specs.Messages.{take_step as taken_by_worker}

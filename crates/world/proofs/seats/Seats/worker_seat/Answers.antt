@@ -1,6 +1,6 @@
 use Rattle.std.proofs.Common.{◌∙◌, ap, map}
 use Rattle.std.specs.Option.{option_map}
-use Rattle.world.proofs.Seated.{found_seen}
+use Rattle.world.proofs.Runs.Seated.{found_seen}
 use Rattle.world.specs.State.{State, worker_of}
 use Rattle.world.proofs.seats.Seats.worker_seat.Goals as goal
 

@@ -1,7 +1,7 @@
 use Rattle.std.proofs.Common.{◌∙◌, IfSome, ap, option_and_then, option_map, subst, sym}
 use Rattle.std.proofs.lemmas.Bool.{ltb-true}
 use Rattle.stored_state.specs.Message.{IsMessageText, message_in}
-use Rattle.world.proofs.SentTexts.{next_number, one_more_sent, one_more_there}
+use Rattle.world.proofs.Messages.SentTexts.{next_number, one_more_sent, one_more_there}
 use Rattle.world.specs.Sent.{SentMessages}
 use Rattle.plain_shop.specs.Settling.{number_of, with_sent}
 use Rattle.world.proofs.sent.SentMessages.send.Goals as goal

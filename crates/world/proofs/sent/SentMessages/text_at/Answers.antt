@@ -1,7 +1,7 @@
 use Rattle.std.proofs.Common.{◌∙◌, map, option_map, IfSome, Ok, ap, subst}
 use Rattle.jmf_message.specs.Decoded.{IsDecodedAs}
 use Rattle.stored_state.specs.Message.{message_text}
-use Rattle.world.proofs.SentTexts.{number_read, numbered_text}
+use Rattle.world.proofs.Messages.SentTexts.{number_read, numbered_text}
 use Rattle.world.specs.Sent.{SentMessages}
 use Rattle.world.specs.State.{message_at}
 use Rattle.world.proofs.sent.SentMessages.text_at.Goals as goal

@@ -1,6 +1,6 @@
 use Rattle.std.proofs.Common.{◌∙◌, map, ap}
 use Rattle.stored_state.specs.Message.{message_text}
-use Rattle.world.proofs.SentTexts.{texts_of_messages}
+use Rattle.world.proofs.Messages.SentTexts.{texts_of_messages}
 use Rattle.world.specs.Sent.{SentMessages}
 use Rattle.world.proofs.sent.SentMessages.texts.Goals as goal
 

@@ -2,7 +2,7 @@ use Rattle.std.proofs.Common.{◌≡◌, [], map, ap, ◌∙◌, refl, subst, sy
 use Rattle.std.proofs.lemmas.List.{map-id}
 use Rattle.master_core.specs.Master as master
 use Rattle.master_core.specs.Master.{State, state as master_state}
-use Rattle.world.proofs.Opening.{opening_is_shown, opening_kept}
+use Rattle.world.proofs.Shop.Opening.{opening_is_shown, opening_kept}
 use Rattle.world.specs.Showing.{shows}
 use Rattle.world.specs.State.{IsConsistent, new_worker, opening, state}
 use Rattle.world.proofs.world.World.new.Goals as goal

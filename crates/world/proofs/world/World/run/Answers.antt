@@ -1,8 +1,8 @@
 use Rattle.std.proofs.Common.{◌≡◌, ◌<◌, ℕ, IfOk, List, OnErr, OnOk, length, refl, subst, take}
 use Rattle.ticket_rows.specs.Ticket.{Job}
-use Rattle.world.proofs.Answered.{if_ok_by, on_err_by}
-use Rattle.world.proofs.Replayed.{cut_before}
-use Rattle.world.proofs.Unknown.{err_by}
+use Rattle.world.proofs.Runs.Answered.{if_ok_by, on_err_by}
+use Rattle.world.proofs.Runs.Replayed.{cut_before}
+use Rattle.world.proofs.Runs.Unknown.{err_by}
 use Rattle.world.specs.Happening as happening
 use Rattle.plain_shop.specs.MergeAudits.{MergeAuditsMatch}
 use Rattle.plain_shop.specs.Replay as replay

@@ -1,0 +1,3 @@
+mod Shop
+mod Replay
+mod Withdrawal

@@ -1,0 +1,11 @@
+pub mod PartsGoOut
+pub mod Steps
+pub mod TicketSeen
+pub mod MarksShown
+pub mod HeldBySpawn
+pub mod SpawnsOut
+pub mod Edits
+pub mod Spawns
+pub mod Resends
+pub mod PartsPutIn
+pub mod SpawnsFreed

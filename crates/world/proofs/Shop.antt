@@ -1,0 +1,12 @@
+pub mod Opening
+pub mod Kept
+pub mod AlwaysKept
+pub mod Changing
+pub mod Once
+pub mod Paths
+pub mod Agreeing
+pub mod MergeAudits
+pub mod StepsTell
+pub mod OrdersTell
+pub mod MergesTell
+pub mod MergesTold

@@ -1,0 +1,17 @@
+pub mod Stored
+pub mod EditedFits
+pub mod Steps
+pub mod EndedEntries
+pub mod InPart
+pub mod Places
+pub mod SameWorkers
+pub mod TakenSpawns
+pub mod PartReads
+pub mod PartHolds
+pub mod EntryStored
+pub mod Agrees
+pub mod Edits
+pub mod Finishes
+pub mod Resends
+pub mod PartsTaken
+pub mod SpawnsGivenUp
