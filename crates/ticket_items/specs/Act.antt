@@ -10,7 +10,7 @@ use Rattle.ticket_items.specs.declared.edit.Edit.TheVariants.{AddResource, AddLi
 use Rattle.ticket_items.specs.declared.link.Link.{Link}
 use Rattle.ticket_items.specs.declared.resource.Resource.{Resource}
 
--- what is new in the row of a node or of a resource: another Status, the text of an attribute, or
+-- what changes in the row of a node or of a resource: another Status, the text of an attribute, or
 -- a note last among the audits
 pub data Change : Type 0 where
   NewStatus : List ℕ → Change
@@ -24,14 +24,17 @@ pub record BareNode : Type 0 where
   pub job_part : List ℕ
   pub status : List ℕ
 
--- a change of the node or of the resource of an id, or a child, a resource or a link that is new at
--- the node of an id
+-- what is new at a node: a child, a resource of its pool or a link
+pub data Addition : Type 0 where
+  NewNode : BareNode → Addition
+  NewResource : Resource → Addition
+  NewLink : Link → Addition
+
+-- a change of the node or of the resource of an id, or an addition to the node of an id
 pub data Act : Type 0 where
   NodeChange : List ℕ → Change → Act
   ResourceChange : List ℕ → Change → Act
-  NewNode : List ℕ → BareNode → Act
-  NewResource : List ℕ → Resource → Act
-  NewLink : List ℕ → Link → Act
+  NodeAddition : List ℕ → Addition → Act
 
 abbrev pub act_of : Edit → Act
 act_of (SetStatus node status) = NodeChange node (NewStatus status)
@@ -40,9 +43,10 @@ act_of (SetResStatus resource status) = ResourceChange resource (NewStatus statu
 act_of (SetResAttr resource name value) = ResourceChange resource (NewAttr name value)
 act_of (Note node text) = NodeChange node (NewNote text)
 act_of (AddNode node id kind job_part status) =
-    NewNode node (record { id = id; kind = kind; job_part = job_part; status = status })
-act_of (AddResource node resource) = NewResource node resource
-act_of (AddLink node link) = NewLink node link
+    NodeAddition node
+    (NewNode (record { id = id; kind = kind; job_part = job_part; status = status }))
+act_of (AddResource node resource) = NodeAddition node (NewResource resource)
+act_of (AddLink node link) = NodeAddition node (NewLink link)
 
 -- ---- what a change makes of a row
 
@@ -65,9 +69,7 @@ audits_after change at old = old
 abbrev pub act_target : Act → List ℕ
 act_target (NodeChange node change) = node
 act_target (ResourceChange resource change) = resource
-act_target (NewNode node new) = node
-act_target (NewResource node resource) = node
-act_target (NewLink node link) = node
+act_target (NodeAddition node addition) = node
 
 -- whether the target is read as a node's id, and not as a resource's
 abbrev pub is_act_of_node : Act → Bool
@@ -76,11 +78,10 @@ is_act_of_node a = true
 
 -- whether it adds to the tree: a node, a resource or a link
 abbrev pub is_act_structural : Act → Bool
-is_act_structural (NodeChange node change) = false
-is_act_structural (ResourceChange resource change) = false
-is_act_structural a = true
+is_act_structural (NodeAddition node addition) = true
+is_act_structural a = false
 
--- whether anything more is in a row after a change, which another Status isn't
+-- whether a change puts anything more into a row, which another Status doesn't
 abbrev pub does_row_grow : Change → Bool
 does_row_grow (NewStatus status) = false
 does_row_grow change = true
@@ -89,10 +90,10 @@ does_row_grow change = true
 abbrev pub does_act_grow : Act → Bool
 does_act_grow (NodeChange node change) = does_row_grow change
 does_act_grow (ResourceChange resource change) = does_row_grow change
-does_act_grow a = true
+does_act_grow (NodeAddition node addition) = true
 
 -- the id that it puts into the ticket
 abbrev pub act_added_id : Act → Option (List ℕ)
-act_added_id (NewNode node new) = Some new.id
-act_added_id (NewResource node resource) = Some resource.id
+act_added_id (NodeAddition node (NewNode new)) = Some new.id
+act_added_id (NodeAddition node (NewResource resource)) = Some resource.id
 act_added_id a = None

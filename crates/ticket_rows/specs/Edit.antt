@@ -4,9 +4,9 @@ use Rattle.std.specs.Prelude.{if◌then◌else◌, nat_lt, Option}
 use Rattle.std.specs.List.{list_any}
 use Rattle.std.specs.Option.{option_map_or}
 use Rattle.std.specs.Str.{bytes_eq}
-use Rattle.ticket_items.specs.Act.{Act, NodeChange, ResourceChange, NewNode, NewResource, NewLink}
-use Rattle.ticket_items.specs.Act.{Change, act_of, act_target, status_after, attrs_after}
-use Rattle.ticket_items.specs.Act.{audits_after}
+use Rattle.ticket_items.specs.Act.{Act, NodeChange, ResourceChange, NodeAddition, act_of, act_target}
+use Rattle.ticket_items.specs.Act.{Change, status_after, attrs_after, audits_after}
+use Rattle.ticket_items.specs.Act.{NewNode, NewResource, NewLink}
 use Rattle.ticket_rows.specs.Homes.{has_resource, home_of}
 use Rattle.ticket_items.specs.Ids.{mem}
 use Rattle.ticket_rows.specs.Place.{is_below, node_places}
@@ -108,8 +108,8 @@ changed_resource change y =
 -- what an act at a time makes of the node that it changes. A new node is none of it
 abbrev pub act_node : Act → ℕ → NodeRow → NodeRow
 act_node (NodeChange node change) at r = changed_node change at r
-act_node (NewResource node resource) at r = record r { resources = r.resources ++ resource ∷ [] }
-act_node (NewLink node link) at r = record r { links = r.links ++ link ∷ [] }
+act_node (NodeAddition node (NewResource resource)) at r = record r { resources = r.resources ++ resource ∷ [] }
+act_node (NodeAddition node (NewLink link)) at r = record r { links = r.links ++ link ∷ [] }
 act_node a at r = r
 
 -- what an act makes of the resource that it changes
@@ -119,7 +119,7 @@ act_resource a y = y
 
 -- the rows after an act at a time that isn't refused
 abbrev pub act_rows : Act → ℕ → List NodeRow → List NodeRow
-act_rows (NewNode node new) at rows =
+act_rows (NodeAddition node (NewNode new)) at rows =
     with_child node (bare_row new.id new.kind new.job_part new.status) rows
 act_rows (ResourceChange resource change) at rows =
     with_resource resource (changed_resource change) rows

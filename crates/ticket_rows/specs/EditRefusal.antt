@@ -1,8 +1,8 @@
 -- What an edit is refused for, over look-ups: one table, however a ticket is written down.
 use Rattle.std.specs.Prelude.{ℕ, Bool, not, List, [], ◌∷◌, Option, None}
 use Rattle.ticket_rows.specs.Ticket.{is_reserved, unless, first_of}
-use Rattle.ticket_items.specs.Act.{Act, NodeChange, ResourceChange, NewNode, NewResource, NewLink}
-use Rattle.ticket_items.specs.Act.{Change, NewStatus, act_of}
+use Rattle.ticket_items.specs.Act.{Act, NodeChange, ResourceChange, NodeAddition, act_of, act_target}
+use Rattle.ticket_items.specs.Act.{Change, NewStatus, Addition, NewNode, NewResource, NewLink}
 use Rattle.ticket_items.specs.declared.edit.Edit.{Edit}
 use Rattle.ticket_items.specs.declared.refusal.Refusal.{Refusal}
 use Rattle.ticket_items.specs.declared.refusal.Refusal.TheVariants.{UnknownNode, UnknownResource}
@@ -27,11 +27,10 @@ no_resource resource at = unless (at.has_resource resource) UnknownResource
 
 -- the first of what an act names that isn't there
 abbrev pub act_unknown : Act → Lookups → Option Refusal
-act_unknown (NodeChange node change) at = no_node node at
 act_unknown (ResourceChange resource change) at = no_resource resource at
-act_unknown (NewNode node new) at = no_node node at
-act_unknown (NewResource node resource) at = no_node node at
-act_unknown (NewLink node link) at = first_of (no_node node at ∷ no_resource link.rref at ∷ [])
+act_unknown (NodeAddition node (NewLink link)) at =
+    first_of (no_node node at ∷ no_resource link.rref at ∷ [])
+act_unknown a at = no_node (act_target a) at
 
 -- why a Status of a node is refused, if it is, and why a change of one
 abbrev pub status_refusal : List ℕ → Option Refusal
@@ -41,16 +40,20 @@ abbrev pub change_refusal : Change → Option Refusal
 change_refusal (NewStatus status) = status_refusal status
 change_refusal change = None
 
+-- why an addition to a node is refused, if it is
+abbrev pub addition_refusal : List ℕ → Addition → Lookups → Option Refusal
+addition_refusal node (NewNode new) at =
+    first_of
+    (status_refusal new.status ∷ unless (not (at.has_id new.id)) DuplicateId
+    ∷ unless (at.has_room node) TooDeep ∷ [])
+addition_refusal node (NewResource resource) at = unless (not (at.has_id resource.id)) DuplicateId
+addition_refusal node (NewLink link) at = unless (at.reaches node link.rref) UnresolvedLink
+
 -- the first of all other reasons
 abbrev pub act_later : Act → Lookups → Option Refusal
 act_later (NodeChange node change) at = change_refusal change
 act_later (ResourceChange resource change) at = None
-act_later (NewNode node new) at =
-    first_of
-    (status_refusal new.status ∷ unless (not (at.has_id new.id)) DuplicateId
-    ∷ unless (at.has_room node) TooDeep ∷ [])
-act_later (NewResource node resource) at = unless (not (at.has_id resource.id)) DuplicateId
-act_later (NewLink node link) at = unless (at.reaches node link.rref) UnresolvedLink
+act_later (NodeAddition node addition) at = addition_refusal node addition at
 
 -- why an act is refused, if it is: what isn't there comes first
 abbrev pub act_refusal : Act → Lookups → Option Refusal

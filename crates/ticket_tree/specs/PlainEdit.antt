@@ -3,9 +3,9 @@ use Rattle.std.specs.Prelude.{ℕ, ◌++◌, Bool, false, List, [], ◌∷◌, l
 use Rattle.std.specs.Prelude.{if◌then◌else◌, Option, Some, is_some}
 use Rattle.std.specs.Option.{option_map, option_map_or}
 use Rattle.std.specs.Str.{bytes_eq}
-use Rattle.ticket_items.specs.Act.{Act, NodeChange, ResourceChange, NewNode, NewResource, NewLink}
-use Rattle.ticket_items.specs.Act.{Change, act_of, act_target, status_after, attrs_after}
-use Rattle.ticket_items.specs.Act.{audits_after}
+use Rattle.ticket_items.specs.Act.{Act, NodeChange, ResourceChange, NodeAddition, act_of, act_target}
+use Rattle.ticket_items.specs.Act.{Change, status_after, attrs_after, audits_after}
+use Rattle.ticket_items.specs.Act.{NewNode, NewResource, NewLink}
 use Rattle.ticket_rows.specs.Edit.{behind_last}
 use Rattle.ticket_rows.specs.EditRefusal.{Lookups, edit_refusal}
 use Rattle.ticket_rows.specs.Place.{Place, Thing, node, resource, Row, place_at, nodes_in}
@@ -64,12 +64,13 @@ with_link link (resource name class) = resource name class
 
 -- the places after an act
 abbrev pub act_places : Act → List Place → List Place
-act_places (NewNode n new) tree =
+act_places (NodeAddition n (NewNode new)) tree =
     behind_last (below n)
     (record { id = new.id; path = new.id ∷ path_at tree n; thing = node new.kind new.job_part [] })
     tree
-act_places (NewResource n x) tree = behind_last (is_at n) (resource_place (path_at tree n) x) tree
-act_places (NewLink n link) tree =
+act_places (NodeAddition n (NewResource x)) tree =
+    behind_last (is_at n) (resource_place (path_at tree n) x) tree
+act_places (NodeAddition n (NewLink link)) tree =
     map
     (λ (p : Place). if bytes_eq p.id n then record p { thing = with_link link p.thing } else p) tree
 act_places a tree = tree
@@ -96,7 +97,7 @@ changed_resource_row change r =
 abbrev pub act_row : Act → ℕ → Row → Row
 act_row (NodeChange n change) at r = changed_row change at r
 act_row (ResourceChange x change) at r = changed_resource_row change r
-act_row a at r = r
+act_row (NodeAddition n addition) at r = r
 
 abbrev pub plain_changed : Edit → ℕ → Row → Row
 plain_changed e at r = act_row (act_of e) at r
@@ -115,9 +116,9 @@ or_row known other = option_map_or Some known other
 
 -- the rows by id after an act at a time
 abbrev pub act_rows_by_id : Act → ℕ → (List ℕ → Option Row) → List ℕ → Option Row
-act_rows_by_id (NewNode n new) at rows =
+act_rows_by_id (NodeAddition n (NewNode new)) at rows =
     with_line new.id (record { status = new.status; attrs = []; audits = [] }) rows
-act_rows_by_id (NewResource n x) at rows = with_line x.id (resource_row x) rows
+act_rows_by_id (NodeAddition n (NewResource x)) at rows = with_line x.id (resource_row x) rows
 act_rows_by_id a at rows = with_row_changed (act_target a) (act_row a at) rows
 
 abbrev pub plain_rows : Edit → ℕ → (List ℕ → Option Row) → List ℕ → Option Row
