@@ -4,7 +4,7 @@ use Rattle.std.specs.Prelude.{if◌then◌else◌, nat_lt, Option}
 use Rattle.std.specs.List.{list_any}
 use Rattle.std.specs.Option.{option_map_or}
 use Rattle.std.specs.Str.{bytes_eq}
-use Rattle.ticket_items.specs.Act.{Act, NodeChange, ResourceChange, NodeAddition, act_of, act_target}
+use Rattle.ticket_items.specs.Act.{Act, NodeChange, ResourceChange, NodeAddition, act_of}
 use Rattle.ticket_items.specs.Act.{Change, status_after, attrs_after, audits_after}
 use Rattle.ticket_items.specs.Act.{NewNode, NewResource, NewLink}
 use Rattle.ticket_rows.specs.Homes.{has_resource, home_of}
@@ -105,33 +105,19 @@ abbrev pub changed_resource : Change → Resource → Resource
 changed_resource change y =
     record y { status = status_after change y.status; attrs = attrs_after change y.attrs }
 
--- what an act at a time makes of the node that it changes. A new node is none of it
-abbrev pub act_node : Act → ℕ → NodeRow → NodeRow
-act_node (NodeChange node change) at r = changed_node change at r
-act_node (NodeAddition node (NewResource resource)) at r = record r { resources = r.resources ++ resource ∷ [] }
-act_node (NodeAddition node (NewLink link)) at r = record r { links = r.links ++ link ∷ [] }
-act_node a at r = r
-
--- what an act makes of the resource that it changes
-abbrev pub act_resource : Act → Resource → Resource
-act_resource (ResourceChange resource change) y = changed_resource change y
-act_resource a y = y
-
 -- the rows after an act at a time that isn't refused
 abbrev pub act_rows : Act → ℕ → List NodeRow → List NodeRow
-act_rows (NodeAddition node (NewNode new)) at rows =
-    with_child node (bare_row new.id new.kind new.job_part new.status) rows
+act_rows (NodeChange node change) at rows = with_row node (changed_node change at) rows
 act_rows (ResourceChange resource change) at rows =
     with_resource resource (changed_resource change) rows
-act_rows a at rows = with_row (act_target a) (act_node a at) rows
+act_rows (NodeAddition node (NewNode new)) at rows =
+    with_child node (bare_row new.id new.kind new.job_part new.status) rows
+act_rows (NodeAddition node (NewResource x)) at rows =
+    with_row node (λ (r : NodeRow). record r { resources = r.resources ++ x ∷ [] }) rows
+act_rows (NodeAddition node (NewLink link)) at rows =
+    with_row node (λ (r : NodeRow). record r { links = r.links ++ link ∷ [] }) rows
 
--- and so of an edit
-abbrev pub node_after : Edit → ℕ → NodeRow → NodeRow
-node_after e at r = act_node (act_of e) at r
-
-abbrev pub resource_after : Edit → Resource → Resource
-resource_after e y = act_resource (act_of e) y
-
+-- and after an edit
 abbrev pub edited_rows : Edit → ℕ → List NodeRow → List NodeRow
 edited_rows e at rows = act_rows (act_of e) at rows
 
