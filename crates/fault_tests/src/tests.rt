@@ -1,5 +1,6 @@
 mod commands;
 mod counts;
+mod cut_keep;
 mod exchanges;
 mod failing_keep;
 mod failing_streams;

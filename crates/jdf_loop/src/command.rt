@@ -160,8 +160,8 @@ pub fn run_loop<N: Net, I: Read, W: Write, F: Write>(
     // node above tell just as the answers do; and behind its last event each may change just what
     // it holds, so no two one node or resource.
     // Proved: `loop` writes nothing where the script is refused or its run is cut off.
-    // Not proved: that what goes through a socket comes. Where a text doesn't come as it was sent,
-    // the run is cut off.
+    // Not proved: that what goes through a socket comes, which cases show; and that the run is cut
+    // off where a text doesn't come as it was sent.
     ensures { run.EndsLoop (traffic I.remaining reader.old reader.new)
         (traffic W.contents writer.old writer.new)
         (traffic F.contents faults.old faults.new) result }

@@ -6,7 +6,6 @@ pub mod MessageTexts
 pub mod OnceMore
 mod OutSoFar
 pub mod HeldSeats
-mod SeatFaults
 mod SavedOnce
 mod TakingEach
 mod Unsaved

@@ -16,7 +16,7 @@ use Rattle.streams.specs.declared.refused.Refused.{Refused}
 use Rattle.streams.specs.declared.refused.Refused.TheVariants as refused
 
 -- the number of failures rose behind a load
-pub rose_behind : (old mid new : ℕ) → old ≤ mid → mid ≤ new → CountRose mid new → CountRose old new
+rose_behind : (old mid new : ℕ) → old ≤ mid → mid ≤ new → CountRose mid new → CountRose old new
 rose_behind old mid new loaded saved rose =
     ⊎_elim (λ less. inl (omega (arith, less, loaded)))
     (λ most. ⊎_elim (λ same. inr (same ∙ most)) (λ less. inl (omega (arith, less, saved))) (eq-or-lt_of_le loaded)) rose

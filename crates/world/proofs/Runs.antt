@@ -1,5 +1,4 @@
 pub mod Answered
-pub mod Faults
 pub mod Unknown
 pub mod Seated
 pub mod Seating
