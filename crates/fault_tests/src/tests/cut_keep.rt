@@ -1,5 +1,5 @@
-//! A keeper over disks of which a save is cut off. The sixth call of a save is the last: by then the
-//! draft has the file's name, and the folder isn't synced.
+//! A keeper over disks of which a save is cut off. The sixth call of a save is the last: by then
+//! the draft has the file's name, and the folder isn't synced.
 
 use super::loads;
 use keepers::{Cut, CutKeep, Keep};
