@@ -2,12 +2,11 @@
 use Rattle.std.proofs.Common.{◌≡◌, ◌≢◌, ◌∙◌, Bool, true, false, List, [], ◌∷◌, Option, Some, None, refl, sym, ap}
 use Rattle.std.proofs.lemmas.Bool.{true≢false}
 use Rattle.std.specs.Prelude.{IfSome, not}
-use Rattle.ticket_items.specs.declared.edit.Edit.{Edit}
-use Rattle.ticket_items.specs.declared.edit.Edit.TheVariants.{SetStatus, SetAttr, SetResStatus, SetResAttr, Note, AddNode, AddResource, AddLink}
+use Rattle.ticket_items.specs.Act.{Act, NodeChange, ResourceChange, NodeAddition, NewStatus, NewNode, NewResource, NewLink}
 use Rattle.ticket_items.specs.declared.refusal.Refusal.{Refusal}
 use Rattle.ticket_items.specs.declared.refusal.Refusal.TheVariants.{Memory}
 use Rattle.ticket_items.specs.declared.refusal.Refusal.TheVariants as refusals
-use Rattle.ticket_rows.specs.EditRefusal.{Lookups, later_refusal, no_node, no_resource, unknown_refusal}
+use Rattle.ticket_rows.specs.EditRefusal.{Lookups, act_later, act_unknown, no_node, no_resource}
 use Rattle.ticket_rows.specs.Ticket.{first_of, is_reserved, unless}
 
 -- it isn't want of memory
@@ -34,17 +33,12 @@ none = tt
 
 -- ---- edits
 
-pub unknown : (e : Edit) (at' : Lookups) → IsOther (unknown_refusal e at')
-unknown (SetStatus node status) at' = test _ _ (other refusals.UnknownNode refl)
-unknown (SetAttr node name value) at' = test _ _ (other refusals.UnknownNode refl)
-unknown (SetResStatus resource status) at' = test _ _ (other refusals.UnknownResource refl)
-unknown (SetResAttr resource name value) at' = test _ _ (other refusals.UnknownResource refl)
-unknown (Note node text) at' = test _ _ (other refusals.UnknownNode refl)
-unknown (AddNode node id kind job_part status) at' = test _ _ (other refusals.UnknownNode refl)
-unknown (AddResource node resource) at' = test _ _ (other refusals.UnknownNode refl)
-unknown (AddLink node link) at' =
-    either (no_node node at') (no_resource link.rref at' ∷ []) (test _ _ (other refusals.UnknownNode refl))
+pub unknown : (a : Act) (at' : Lookups) → IsOther (act_unknown a at')
+unknown (ResourceChange x change) at' = test _ _ (other refusals.UnknownResource refl)
+unknown (NodeAddition n (NewLink link)) at' =
+    either (no_node n at') (no_resource link.rref at' ∷ []) (test _ _ (other refusals.UnknownNode refl))
     (either (no_resource link.rref at') [] (test _ _ (other refusals.UnknownResource refl)) none)
+unknown a at' = test _ _ (other refusals.UnknownNode refl)
 
 added : (a b c : Bool) → IsOther (first_of (unless a refusals.ReservedStatus ∷ unless b refusals.DuplicateId ∷ unless c refusals.TooDeep ∷ []))
 added false b c = other refusals.ReservedStatus refl
@@ -52,15 +46,12 @@ added true false c = other refusals.DuplicateId refl
 added true true false = other refusals.TooDeep refl
 added true true true = tt
 
-pub later : (e : Edit) (at' : Lookups) → IsOther (later_refusal e at')
-later (SetStatus node status) at' = test _ _ (other refusals.ReservedStatus refl)
-later (SetAttr node name value) at' = tt
-later (SetResStatus resource status) at' = tt
-later (SetResAttr resource name value) at' = tt
-later (Note node text) at' = tt
-later (AddNode node id kind job_part status) at' = added (not (is_reserved status)) (not (at'.has_id id)) (at'.has_room node)
-later (AddResource node resource) at' = test _ _ (other refusals.DuplicateId refl)
-later (AddLink node link) at' = test _ _ (other refusals.UnresolvedLink refl)
+pub later : (a : Act) (at' : Lookups) → IsOther (act_later a at')
+later (NodeChange n (NewStatus status)) at' = test _ _ (other refusals.ReservedStatus refl)
+later (NodeAddition n (NewNode new)) at' = added (not (is_reserved new.status)) (not (at'.has_id new.id)) (at'.has_room n)
+later (NodeAddition n (NewResource x)) at' = test _ _ (other refusals.DuplicateId refl)
+later (NodeAddition n (NewLink link)) at' = test _ _ (other refusals.UnresolvedLink refl)
+later a at' = tt
 
 -- three in turn
 pub three : (a b c : Option Refusal) → IsOther a → IsOther b → IsOther c → IsOther (first_of (a ∷ b ∷ c ∷ []))

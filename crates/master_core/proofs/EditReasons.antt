@@ -1,11 +1,10 @@
 -- In what order an edit is refused.
 use Rattle.std.proofs.Common.{◌≡◌, ◌⊎◌, inl, inr, Bool, true, false, [], ◌∷◌, Option, Some, None, refl}
 use Rattle.std.specs.Option.{option_or}
-use Rattle.ticket_items.specs.declared.edit.Edit.{Edit}
-use Rattle.ticket_items.specs.declared.edit.Edit.TheVariants.{SetStatus, SetAttr, SetResStatus, SetResAttr, Note, AddNode, AddResource, AddLink}
+use Rattle.ticket_items.specs.Act.{Act, ResourceChange, NodeAddition, NewLink, act_target}
 use Rattle.ticket_items.specs.declared.refusal.Refusal.{Refusal}
 use Rattle.ticket_items.specs.declared.refusal.Refusal.TheVariants.{UnknownNode, UnknownResource}
-use Rattle.ticket_rows.specs.EditRefusal.{Lookups, unknown_refusal}
+use Rattle.ticket_rows.specs.EditRefusal.{Lookups, act_unknown}
 use Rattle.ticket_rows.specs.Ticket.{first_of, unless}
 
 -- no refusal, or that a node or a resource isn't there
@@ -25,15 +24,10 @@ neither_is true true = inl refl
 neither_is true false = inr (inr refl)
 neither_is false b = inr (inl refl)
 
-pub unknown_is : (e : Edit) (at : Lookups) → IsUnknown (unknown_refusal e at)
-unknown_is (SetStatus n status) at = no_node_is (at.has_node n)
-unknown_is (SetAttr n name value) at = no_node_is (at.has_node n)
-unknown_is (SetResStatus x status) at = no_resource_is (at.has_resource x)
-unknown_is (SetResAttr x name value) at = no_resource_is (at.has_resource x)
-unknown_is (Note n text) at = no_node_is (at.has_node n)
-unknown_is (AddNode n id kind job_part status) at = no_node_is (at.has_node n)
-unknown_is (AddResource n resource) at = no_node_is (at.has_node n)
-unknown_is (AddLink n link) at = neither_is (at.has_node n) (at.has_resource link.rref)
+pub unknown_is : (a : Act) (at : Lookups) → IsUnknown (act_unknown a at)
+unknown_is (ResourceChange x change) at = no_resource_is (at.has_resource x)
+unknown_is (NodeAddition n (NewLink link)) at = neither_is (at.has_node n) (at.has_resource link.rref)
+unknown_is a at = no_node_is (at.has_node (act_target a))
 
 -- where the second of two is refused, what comes between them is before it
 pub later_first : (u h l : Option Refusal) (r : Refusal) → IsUnknown u → first_of (u ∷ l ∷ []) ≡ Some r → (r ≡ UnknownNode → ⊥) → (r ≡ UnknownResource → ⊥) → option_or h (Some r) ≡ first_of (u ∷ h ∷ l ∷ [])

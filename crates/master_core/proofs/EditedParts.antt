@@ -12,9 +12,8 @@ use Rattle.ticket_items.proofs.Apart.{bytes_eq-same}
 use Rattle.ticket_items.specs.Ids.{mem}
 use Rattle.ticket_items.specs.declared.ancestor.Ancestor.{Ancestor}
 use Rattle.ticket_items.specs.declared.edit.Edit.{Edit}
-use Rattle.ticket_items.specs.declared.edit.Edit.TheVariants.{SetStatus, SetAttr, SetResStatus}
-use Rattle.ticket_items.specs.declared.edit.Edit.TheVariants.{SetResAttr, Note, AddNode}
-use Rattle.ticket_items.specs.declared.edit.Edit.TheVariants.{AddResource, AddLink}
+use Rattle.ticket_items.specs.Act.{Act, NodeAddition, NewNode, NewResource, NewLink, act_of}
+use Rattle.ticket_items.specs.Act.{act_target, act_added_id}
 use Rattle.ticket_items.specs.declared.link.Link.{Link}
 use Rattle.ticket_items.specs.declared.node_row.NodeRow.{NodeRow}
 use Rattle.ticket_rows.proofs.Below.{Path, mem-drop, mem-node_ids}
@@ -29,7 +28,7 @@ use Rattle.ticket_tree.proofs.LookUps.{node_is_at_place, nodes_among_places}
 use Rattle.ticket_tree.proofs.PlainEdits.{edit_of_places}
 use Rattle.ticket_tree.proofs.PlainRows.{edit_of_rows}
 use Rattle.ticket_tree.proofs.StaysValid.{edit_is_valid}
-use Rattle.ticket_tree.specs.PlainEdit.{plain_places, plain_rows, with_link}
+use Rattle.ticket_tree.specs.PlainEdit.{act_places, act_rows_by_id, with_link}
 use Rattle.spawn.proofs.EditKeeps.{edit_keeps_claims}
 use Rattle.spawn.proofs.HoldingsEdited.{new_nowhere}
 use Rattle.spawn.proofs.Lawful.{claim_is_held}
@@ -279,19 +278,15 @@ linked_told n a link (p ∷ tree) =
     ∙ told_step a q p (nodes_in (map (linked n link) tree)) (nodes_in tree) (is_node p) (id_linked b link p) (told_linked b link p) (linked_told n a link tree)
 
 -- what any node tells that has another id than a new one
-pub edit_told : (e : Edit) (a : List ℕ) (tree : List Place)
-    → ((i : List ℕ) → added_id e ≡ Some i → bytes_eq i a ≡ false)
-    → told_at (nodes_in (plain_places e tree)) a ≡ told_at (nodes_in tree) a
-edit_told (SetStatus n status) a tree other = refl
-edit_told (SetAttr n name value) a tree other = refl
-edit_told (SetResStatus x status) a tree other = refl
-edit_told (SetResAttr x name value) a tree other = refl
-edit_told (Note n text) a tree other = refl
-edit_told (AddNode n id kind job_part status) a tree other =
-    ap (option_map told) (found_behind _ a _ tree (other id refl))
-edit_told (AddResource n x) a tree other =
+pub edit_told : (act : Act) (a : List ℕ) (tree : List Place)
+    → ((i : List ℕ) → act_added_id act ≡ Some i → bytes_eq i a ≡ false)
+    → told_at (nodes_in (act_places act tree)) a ≡ told_at (nodes_in tree) a
+edit_told (NodeAddition n (NewNode new)) a tree other =
+    ap (option_map told) (found_behind _ a _ tree (other new.id refl))
+edit_told (NodeAddition n (NewResource x)) a tree other =
     ap (option_map told) (found_behind _ a _ tree (other x.id refl))
-edit_told (AddLink n link) a tree other = linked_told n a link tree
+edit_told (NodeAddition n (NewLink link)) a tree other = linked_told n a link tree
+edit_told act a tree other = refl
 
 -- ---- rows
 
@@ -299,18 +294,13 @@ off : (b : Bool) (x y : Option Row) → b ≡ false → cond b x y ≡ y
 off b x y e = ap (λ c. cond c x y) e
 
 -- the row of an id that is neither the target nor new
-edit_row : (e : Edit) (at : ℕ) (rows : List ℕ → Option Row) (x : List ℕ)
-    → bytes_eq (target e) x ≡ false
-    → ((i : List ℕ) → added_id e ≡ Some i → bytes_eq i x ≡ false)
-    → plain_rows e at rows x ≡ rows x
-edit_row (SetStatus n status) at rows x e other = off (bytes_eq n x) _ (rows x) e
-edit_row (SetAttr n name value) at rows x e other = off (bytes_eq n x) _ (rows x) e
-edit_row (SetResStatus y status) at rows x e other = off (bytes_eq y x) _ (rows x) e
-edit_row (SetResAttr y name value) at rows x e other = off (bytes_eq y x) _ (rows x) e
-edit_row (Note n text) at rows x e other = off (bytes_eq n x) _ (rows x) e
-edit_row (AddNode n id kind job_part status) at rows x e other = off (bytes_eq id x) _ (rows x) (other id refl)
-edit_row (AddResource n y) at rows x e other = off (bytes_eq y.id x) _ (rows x) (other y.id refl)
-edit_row (AddLink n link) at rows x e other = off (bytes_eq n x) _ (rows x) e
+row_stays : (a : Act) (at : ℕ) (rows : List ℕ → Option Row) (x : List ℕ)
+    → bytes_eq (act_target a) x ≡ false
+    → ((i : List ℕ) → act_added_id a ≡ Some i → bytes_eq i x ≡ false)
+    → act_rows_by_id a at rows x ≡ rows x
+row_stays (NodeAddition n (NewNode new)) at rows x e other = off (bytes_eq new.id x) _ (rows x) (other new.id refl)
+row_stays (NodeAddition n (NewResource y)) at rows x e other = off (bytes_eq y.id x) _ (rows x) (other y.id refl)
+row_stays a at rows x e other = off (bytes_eq (act_target a) x) _ (rows x) e
 
 -- ---- new ids
 
@@ -358,11 +348,11 @@ edit_keeps_parts t recs e at k r valid apart free held there out =
     let rows : (x : List ℕ) → mem x (ids_of (claim (places t.rows) r.node r.rw)) ≡ true
     → row_in later.rows x ≡ row_in t.rows x = λ x on.
     edit_of_rows e at t.rows valid free x
-    ∙ edit_row e at (row_in t.rows) x (claimed_other t recs k r x (target e) valid apart there out on held) (none_added e t.rows x free (stands x on)) in
+    ∙ row_stays (act_of e) at (row_in t.rows) x (claimed_other t recs k r x (target e) valid apart there out on held) (none_added e t.rows x free (stands x on)) in
     let told_same : (a : List ℕ) → mem a (ids t.rows) ≡ true
     → told_at (node_places later.rows) a ≡ told_at (node_places t.rows) a = λ a there.
     ap (λ tree. told_at (nodes_in tree) a) (edit_of_places e at t.rows valid free)
-    ∙ edit_told e a (places t.rows) (none_added e t.rows a free there) in
+    ∙ edit_told (act_of e) a (places t.rows) (none_added e t.rows a free there) in
     let own : mem r.node (ids t.rows) ≡ true = node_among_ids r.node t.rows (mem-node_ids t.rows r.node ∙ good_node t.rows r good) in
     let up = ancestors_by_places later.rows r.node valid'
     ∙ ancestors_stay (node_places t.rows) (node_places later.rows) r.node (told_same r.node own)

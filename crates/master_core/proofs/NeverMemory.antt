@@ -3,6 +3,7 @@ use Rattle.std.proofs.Common.{◌≡◌, ◌≢◌, ℕ, Bool, true, false, [], 
 use Rattle.std.specs.Option.{option_map, option_map_or}
 use Rattle.std.specs.List.{list_all}
 use Rattle.std.specs.Prelude.{IfErr, is_some}
+use Rattle.ticket_items.specs.Act.{act_of}
 use Rattle.ticket_items.specs.Ids.{mem}
 use Rattle.ticket_items.specs.SpawnId.{is_spawn_number}
 use Rattle.ticket_items.specs.declared.refusal.Refusal.{Refusal}
@@ -48,7 +49,7 @@ spawns true true true true true None isnt = tt
 pub never_memory : (o : master_order.Order) (w : master.State) → IsOther (master_orders.order_refusal o w)
 never_memory (to_master.Edit e) w =
     three (unknown_refusal e (lookups w.ticket.rows)) (master_orders.not_held w (target e)) (later_refusal e (lookups w.ticket.rows))
-    (unknown e (lookups w.ticket.rows)) (held (master.holder w (target e))) (later e (lookups w.ticket.rows))
+    (unknown (act_of e) (lookups w.ticket.rows)) (held (master.holder w (target e))) (later (act_of e) (lookups w.ticket.rows))
 never_memory (to_master.Spawn n v rw) w =
     let rows = w.ticket.rows in
     let why = spawning.spawn_refusal rows w.records (master.next_number w.records) n rw in

@@ -5,11 +5,12 @@ use Rattle.std.specs.Option.{option_map_or}
 use Rattle.std.specs.Str.{bytes_eq}
 use Rattle.ticket_items.specs.Ids.{mem}
 use Rattle.ticket_items.specs.declared.edit.Edit.{Edit}
-use Rattle.ticket_items.specs.declared.edit.Edit.TheVariants.{SetStatus, SetAttr, SetResStatus, SetResAttr, Note, AddNode, AddResource, AddLink}
+use Rattle.ticket_items.specs.Act.{act_of}
 use Rattle.ticket_items.specs.declared.node_row.NodeRow.{NodeRow}
 use Rattle.ticket_items.specs.declared.refusal.Refusal.{Refusal}
-use Rattle.ticket_items.specs.declared.refusal.Refusal.TheVariants.{UnknownNode, UnknownResource, UnknownWorker, UnknownSpawn, NotOut, WrongMessage, WrongSender}
-use Rattle.ticket_items.specs.Edit.{target}
+use Rattle.ticket_items.specs.declared.refusal.Refusal.TheVariants.{UnknownWorker, UnknownSpawn, NotOut, WrongMessage, WrongSender}
+use Rattle.ticket_items.specs.Edit.{is_of_node, target}
+use Rattle.ticket_rows.proofs.Reasons.{named_known}
 use Rattle.ticket_rows.specs.Edit.{lookups, refusal_of}
 use Rattle.ticket_rows.specs.EditRefusal.{later_refusal, unknown_refusal}
 use Rattle.ticket_rows.specs.Homes.{has_resource}
@@ -55,27 +56,12 @@ node_stands rows x known = kept_stands is_node (places rows) x (stands_node rows
 resource_stands : (rows : List NodeRow) (x : List ℕ) → has_resource rows x ≡ true → is_some (place_at (places rows) x) ≡ true
 resource_stands rows x known = kept_stands (λ p. not (is_node p)) (places rows) x (stands_resource rows x ∙ known)
 
-known_node : (a : Bool) → unless a UnknownNode ≡ None → a ≡ true
-known_node true e = refl
-known_node false e = cc
-
-known_resource : (a : Bool) → unless a UnknownResource ≡ None → a ≡ true
-known_resource true e = refl
-known_resource false e = cc
-
-known_both : (a b : Bool) → first_of (unless a UnknownNode ∷ unless b UnknownResource ∷ []) ≡ None → a ≡ true
-known_both true b e = refl
-known_both false b e = cc
+stands_by : (of_node : Bool) (rows : List NodeRow) (x : List ℕ) → cond of_node (has_node rows x) (has_resource rows x) ≡ true → is_some (place_at (places rows) x) ≡ true
+stands_by true rows x known = node_stands rows x known
+stands_by false rows x known = resource_stands rows x known
 
 target_stands : (e : Edit) (rows : List NodeRow) → unknown_refusal e (lookups rows) ≡ None → is_some (place_at (places rows) (target e)) ≡ true
-target_stands (SetStatus n status) rows none = node_stands rows n (known_node (has_node rows n) none)
-target_stands (SetAttr n name value) rows none = node_stands rows n (known_node (has_node rows n) none)
-target_stands (SetResStatus x status) rows none = resource_stands rows x (known_resource (has_resource rows x) none)
-target_stands (SetResAttr x name value) rows none = resource_stands rows x (known_resource (has_resource rows x) none)
-target_stands (Note n text) rows none = node_stands rows n (known_node (has_node rows n) none)
-target_stands (AddNode n id kind job_part status) rows none = node_stands rows n (known_node (has_node rows n) none)
-target_stands (AddResource n x) rows none = node_stands rows n (known_node (has_node rows n) none)
-target_stands (AddLink n link) rows none = node_stands rows n (known_both (has_node rows n) (has_resource rows link.rref) none)
+target_stands e rows none = stands_by (is_of_node e) rows (target e) (named_known (act_of e) (lookups rows) none)
 
 -- ---- edits
 

@@ -8,7 +8,7 @@ use Rattle.std.specs.Str.{bytes_eq}
 use Rattle.ticket_items.proofs.Apart.{bytes_eq-same}
 use Rattle.ticket_items.specs.Ids.{mem}
 use Rattle.ticket_items.specs.declared.edit.Edit.{Edit}
-use Rattle.ticket_items.specs.declared.edit.Edit.TheVariants.{SetStatus, SetAttr, SetResStatus, SetResAttr, Note, AddNode, AddResource, AddLink}
+use Rattle.ticket_items.specs.Act.{Act, NodeAddition, NewNode, NewResource, NewLink, act_of}
 use Rattle.ticket_items.specs.declared.link.Link.{Link}
 use Rattle.ticket_items.specs.declared.node_row.NodeRow.{NodeRow}
 use Rattle.ticket_items.specs.declared.resource.Resource.{Resource}
@@ -19,7 +19,7 @@ use Rattle.ticket_rows.specs.Place.{Place, Thing, below, is_node, named_thing, n
 use Rattle.ticket_rows.specs.Ticket.{IsValid, has_node, ids}
 use Rattle.ticket_tree.proofs.OnPlaces.{stands_node, stands_resource}
 use Rattle.ticket_tree.proofs.PlainEdits.{edit_of_places}
-use Rattle.ticket_tree.specs.PlainEdit.{plain_places, with_link}
+use Rattle.ticket_tree.specs.PlainEdit.{act_places, plain_places, with_link}
 use Rattle.spawn.proofs.SoundPart.{node_among_ids}
 use Rattle.plain_shop.specs.Claim.{is_linked_below, is_linked_outside, linked_outside, linked_ro, linked_rw}
 use Rattle.spawn.specs.Records.{IsGood}
@@ -86,16 +86,12 @@ has_linked : (n : List ℕ) (link : Link) (tree : List Place) (x : List ℕ) →
 has_linked n link [] x = refl
 has_linked n link (p ∷ tree) x = ap (λ b. b || has (map (linked n link) tree) x) (same_linked (bytes_eq p.id n) link p x) ∙ ap (λ b. (not (is_node p) && bytes_eq p.id x) || b) (has_linked n link tree x)
 
--- each resource still stands after an edit
-edit_has : (e : Edit) (tree : List Place) (x : List ℕ) → has tree x ≡ true → has (plain_places e tree) x ≡ true
-edit_has (SetStatus n status) tree x there = there
-edit_has (SetAttr n name value) tree x there = there
-edit_has (SetResStatus y status) tree x there = there
-edit_has (SetResAttr y name value) tree x there = there
-edit_has (Note n text) tree x there = there
-edit_has (AddNode n id kind job_part status) tree x there = any_behind _ (λ p. not (is_node p) && bytes_eq p.id x) _ tree there
-edit_has (AddResource n y) tree x there = any_behind _ (λ p. not (is_node p) && bytes_eq p.id x) _ tree there
-edit_has (AddLink n link) tree x there = has_linked n link tree x ∙ there
+-- each resource still stands after an act
+has_still : (a : Act) (tree : List Place) (x : List ℕ) → has tree x ≡ true → has (act_places a tree) x ≡ true
+has_still (NodeAddition n (NewNode new)) tree x there = any_behind _ (λ p. not (is_node p) && bytes_eq p.id x) _ tree there
+has_still (NodeAddition n (NewResource y)) tree x there = any_behind _ (λ p. not (is_node p) && bytes_eq p.id x) _ tree there
+has_still (NodeAddition n (NewLink link)) tree x there = has_linked n link tree x ∙ there
+has_still a tree x there = there
 
 -- whether what stands at a place has a parent, by its path
 has_parent_told : (o : Option Place) → is_some (option_and_then parent o) ≡ option_map_or (λ (t : Told). is_some (slice_get t.0 1)) (option_map told o) false
@@ -113,7 +109,7 @@ edit_up rows e n free above =
     let known : has_node rows n ≡ true = sym (stands_node rows n) ∙ known_above (place_at (nodes_in tree) n) above in
     let there : mem n (ids rows) ≡ true = node_among_ids n rows (mem-node_ids rows n ∙ known) in
     has_parent_told (place_at (nodes_in (plain_places e tree)) n)
-    ∙ ap (λ o. option_map_or (λ (t : Told). is_some (slice_get t.0 1)) o false) (edit_told e n tree (none_added e rows n free there))
+    ∙ ap (λ o. option_map_or (λ (t : Told). is_some (slice_get t.0 1)) o false) (edit_told (act_of e) n tree (none_added e rows n free there))
     ∙ sym (has_parent_told (place_at (nodes_in tree) n)) ∙ above
 
 all_grow : {X : Type 0} (f g : X → Bool) (xs : List X) → ((x : X) → f x ≡ true → g x ≡ true) → list_all f xs ≡ true → list_all g xs ≡ true
@@ -130,8 +126,8 @@ edit_stands rows e at r valid free stood =
     let first = and_parts (is_some (up (nodes_in tree) r.node)) (list_all (has tree) r.rw) parts.0 in
     sym (among_is (edited_rows e at rows) r) ∙ ap (λ ps. stands_among ps r) (edit_of_places e at rows valid free)
     ∙ and_from (is_some (up (nodes_in later) r.node) && list_all (has later) r.rw) (list_all (λ (x : Resource). has later x.id) r.ro)
-    (and_from (is_some (up (nodes_in later) r.node)) (list_all (has later) r.rw) (edit_up rows e r.node free first.0) (all_grow (has tree) (has later) r.rw (edit_has e tree) first.1))
-    (all_grow (λ (x : Resource). has tree x.id) (λ (x : Resource). has later x.id) r.ro (λ x. edit_has e tree x.id) parts.1)
+    (and_from (is_some (up (nodes_in later) r.node)) (list_all (has later) r.rw) (edit_up rows e r.node free first.0) (all_grow (has tree) (has later) r.rw (has_still (act_of e) tree) first.1))
+    (all_grow (λ (x : Resource). has tree x.id) (λ (x : Resource). has later x.id) r.ro (λ x. has_still (act_of e) tree x.id) parts.1)
 
 -- ---- a good record
 

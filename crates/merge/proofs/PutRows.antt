@@ -18,7 +18,7 @@ use Rattle.ticket_rows.specs.Place.{Place, Row, node_row, resource_row, places, 
 use Rattle.ticket_rows.specs.Ticket.{Job, IsValid, ids, node_ids}
 use Rattle.ticket_tree.proofs.ById.{node_no_resource}
 use Rattle.ticket_tree.proofs.OnPlaces.{stands_somewhere}
-use Rattle.ticket_tree.proofs.PlainRows.{changed_node}
+use Rattle.ticket_tree.proofs.PlainRows.{node_touched}
 use Rattle.ticket_tree.specs.Part.{PartCopy}
 use Rattle.ticket_tree.specs.PartView.{own_rows}
 use Rattle.ticket_items.specs.declared.node_row.NodeRow.{NodeRow}
@@ -284,6 +284,6 @@ put_of_rows t r p time valid good fits y =
     let audit = merged_audit r time in
     let distinct = ap are_distinct (same_ids rows t.rows (put_shapes t r p valid fits at)) ∙ valid.distinct in
     let known = ap (mem u) (ids_kept (row_from p) t.rows (row_from-id p)) ∙ mem-node_ids t.rows u ∙ (above_apart t.rows r.node valid good.has_parent).1 in
-    changed_node u (λ s. record s { audits = s.audits ++ audit ∷ [] }) (λ s. record s { audits = s.audits ++ audit ∷ [] }) rows y (record { id = λ s. refl; pool = λ s. refl; row = λ s. refl }) (node_no_resource u rows distinct known)
+    node_touched u (λ s. record s { audits = s.audits ++ audit ∷ [] }) (λ s. record s { audits = s.audits ++ audit ∷ [] }) rows y (record { id = λ s. refl; pool = λ s. refl; row = λ s. refl }) (node_no_resource u rows distinct known)
     ∙ ap (λ o. cond (bytes_eq u y) (option_map (λ (s : Row). record s { audits = s.audits ++ audit ∷ [] }) o) o)
     (merged_at (place_at (places t.rows) y) (option_map_or (is_claimed r.node r.rw) (place_at (places t.rows) y) false) node_row resource_row own_row t r p y valid good fits at refl refl)

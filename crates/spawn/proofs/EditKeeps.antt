@@ -9,20 +9,17 @@ use Rattle.std.specs.Option.{option_map, option_map_or}
 use Rattle.std.specs.Str.{bytes_eq}
 use Rattle.ticket_tree.proofs.OnPlaces.{ids_of_places}
 use Rattle.ticket_tree.proofs.PlainEdits.{edit_of_places}
-use Rattle.ticket_tree.proofs.PlainRows.{link_known}
-use Rattle.ticket_rows.proofs.Reasons.{child_new, resource_known, resource_new}
-use Rattle.ticket_items.specs.Edit.{target}
-use Rattle.ticket_rows.specs.Edit.{refusal_of, behind_last}
+use Rattle.ticket_rows.proofs.Reasons.{child_new, resource_new, target_known}
+use Rattle.ticket_items.specs.Act.{Act, NodeAddition, act_of, act_target}
+use Rattle.ticket_items.specs.Act.{Addition, NewNode, NewResource, NewLink}
+use Rattle.ticket_rows.specs.Edit.{behind_last, lookups}
+use Rattle.ticket_rows.specs.EditRefusal.{act_refusal}
 use Rattle.ticket_items.specs.Ids.{mem}
 use Rattle.ticket_rows.specs.Place.{Place, Thing, node, resource, is_node, is_node_thing, places}
 use Rattle.ticket_rows.specs.Place.{node_places, resource_places, resource_place, place_at, below}
 use Rattle.ticket_rows.specs.Place.{home, home_at, links_of, are_links_above}
-use Rattle.ticket_tree.specs.PlainEdit.{with_link, path_at, plain_places, is_at}
+use Rattle.ticket_tree.specs.PlainEdit.{act_places, with_link, path_at, is_at}
 use Rattle.ticket_rows.specs.Ticket.{IsValid, has_node, ids}
-use Rattle.ticket_items.specs.declared.edit.Edit.{Edit}
-use Rattle.ticket_items.specs.declared.edit.Edit.TheVariants.{SetStatus, SetAttr, SetResStatus}
-use Rattle.ticket_items.specs.declared.edit.Edit.TheVariants.{SetResAttr, Note, AddNode}
-use Rattle.ticket_items.specs.declared.edit.Edit.TheVariants.{AddResource, AddLink}
 use Rattle.ticket_items.specs.declared.link.Link.{Link}
 use Rattle.ticket_items.specs.declared.node_row.NodeRow.{NodeRow}
 use Rattle.ticket_items.specs.declared.resource.Resource.{Resource}
@@ -317,23 +314,21 @@ keeps_resource rows n r x valid good f new =
       outside_behind (is_at n) r.node place (places rows) (λ y. refl) (ap (λ b. (true && not (mem r.node (path_at (places rows) n))) && b) (new_not_linked rows r.node x.id valid new) ∙ and_none (true && not (mem r.node (path_at (places rows) n)))),
     )
 
-keeps_plain : (rows : List NodeRow) (recs : List SpawnRec) (e : Edit) → IsValid rows
-    → refusal_of e rows ≡ None → holder_of rows recs (target e) ≡ Some Master
+keeps_addition : (rows : List NodeRow) (n : List ℕ) (r : SpawnRec) (addition : Addition)
+    → IsValid rows → IsGood rows r → Free rows n r
+    → act_refusal (NodeAddition n addition) (lookups rows) ≡ None
+    → Keeps rows r (act_places (NodeAddition n addition) (places rows))
+keeps_addition rows n r (NewNode new) valid good f free = keeps_node rows n r new.id new.kind new.job_part valid good f (child_new n new (lookups rows) free).2
+keeps_addition rows n r (NewResource x) valid good f free = keeps_resource rows n r x valid good f (resource_new n x (lookups rows) free)
+keeps_addition rows n r (NewLink link) valid good f free = (claim_linked rows n link r valid f, outside_linked rows n link r valid f)
+
+keeps_act : (rows : List NodeRow) (recs : List SpawnRec) (a : Act) → IsValid rows
+    → act_refusal a (lookups rows) ≡ None → holder_of rows recs (act_target a) ≡ Some Master
     → (k : ℕ) (r : SpawnRec) → slice_get recs k ≡ Some r → is_out r ≡ true → IsGood rows r
-    → Keeps rows r (plain_places e (places rows))
-keeps_plain rows recs (SetStatus n status) valid free held k r at out good = (refl, refl)
-keeps_plain rows recs (SetAttr n name value) valid free held k r at out good = (refl, refl)
-keeps_plain rows recs (SetResStatus x status) valid free held k r at out good = (refl, refl)
-keeps_plain rows recs (SetResAttr x name value) valid free held k r at out good = (refl, refl)
-keeps_plain rows recs (Note n text) valid free held k r at out good = (refl, refl)
-keeps_plain rows recs (AddNode n id kind job_part status) valid free held k r at out good =
-    let fit = child_new rows n id status free in
-    keeps_node rows n r id kind job_part valid good (free_of rows recs n k r valid fit.0 held at out) fit.2
-keeps_plain rows recs (AddResource n x) valid free held k r at out good =
-    keeps_resource rows n r x valid good (free_of rows recs n k r valid (resource_known rows n x free) held at out) (resource_new rows n x free)
-keeps_plain rows recs (AddLink n link) valid free held k r at out good =
-    let f = free_of rows recs n k r valid (link_known rows n link free) held at out in
-    (claim_linked rows n link r valid f, outside_linked rows n link r valid f)
+    → Keeps rows r (act_places a (places rows))
+keeps_act rows recs (NodeAddition n addition) valid free held k r at out good =
+    keeps_addition rows n r addition valid good (free_of rows recs n k r valid (target_known (NodeAddition n addition) (lookups rows) free) held at out) free
+keeps_act rows recs a valid free held k r at out good = (refl, refl)
 
 pub edit_keeps_claims : EditKeepsClaims
-edit_keeps_claims rows recs e time valid free held k r at out good = subst (Keeps rows r) (sym (edit_of_places e time rows valid free)) (keeps_plain rows recs e valid free held k r at out good)
+edit_keeps_claims rows recs e time valid free held k r at out good = subst (Keeps rows r) (sym (edit_of_places e time rows valid free)) (keeps_act rows recs (act_of e) valid free held k r at out good)

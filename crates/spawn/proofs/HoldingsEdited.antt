@@ -8,18 +8,18 @@ use Rattle.std.specs.Option.{option_and_then, option_map, option_map_or}
 use Rattle.std.specs.Str.{bytes_eq}
 use Rattle.ticket_items.specs.Ids.{mem}
 use Rattle.ticket_rows.proofs.Reasons.{child_new, resource_new}
+use Rattle.ticket_items.specs.Act.{Act, NodeAddition, NewNode, NewResource, NewLink, act_of}
+use Rattle.ticket_items.specs.Act.{act_added_id}
 use Rattle.ticket_items.specs.Edit.{added_id, target}
-use Rattle.ticket_rows.specs.Edit.{behind_last, edited_rows, refusal_of}
+use Rattle.ticket_rows.specs.Edit.{behind_last, edited_rows, lookups, refusal_of}
+use Rattle.ticket_rows.specs.EditRefusal.{Lookups, act_refusal}
 use Rattle.ticket_rows.specs.Place.{Place, place_at, places}
 use Rattle.ticket_rows.specs.Ticket.{IsValid, ids}
 use Rattle.ticket_tree.proofs.ByKind.{found_by_kind}
 use Rattle.ticket_tree.proofs.OnPlaces.{stands_somewhere}
 use Rattle.ticket_tree.proofs.PlainEdits.{edit_of_places}
-use Rattle.ticket_tree.specs.PlainEdit.{plain_places, with_link}
+use Rattle.ticket_tree.specs.PlainEdit.{act_places, plain_places, with_link}
 use Rattle.ticket_items.specs.declared.edit.Edit.{Edit}
-use Rattle.ticket_items.specs.declared.edit.Edit.TheVariants.{SetStatus, SetAttr, SetResStatus}
-use Rattle.ticket_items.specs.declared.edit.Edit.TheVariants.{SetResAttr, Note, AddNode}
-use Rattle.ticket_items.specs.declared.edit.Edit.TheVariants.{AddResource, AddLink}
 use Rattle.ticket_items.specs.declared.link.Link.{Link}
 use Rattle.ticket_items.specs.declared.node_row.NodeRow.{NodeRow}
 use Rattle.spawn.proofs.EditKeeps.{edit_keeps_claims}
@@ -55,8 +55,11 @@ by_spot recs None = refl
 by_spot recs (Some p) = refl
 
 -- an id isn't the one that is added
+abbrev pub IsOutside : Act → List ℕ → Type 0
+IsOutside a x = (i : List ℕ) → act_added_id a ≡ Some i → bytes_eq i x ≡ false
+
 abbrev pub IsOld : Edit → List ℕ → Type 0
-IsOld e x = (i : List ℕ) → added_id e ≡ Some i → bytes_eq i x ≡ false
+IsOld e x = IsOutside (act_of e) x
 
 behind_by : (x : List ℕ) (new q : Place) (tree rest : List Place) (b : Bool)
     → bytes_eq new.id x ≡ false → place_at rest x ≡ place_at tree x
@@ -90,16 +93,12 @@ linked_spot n x link [] = refl
 linked_spot n x link (q ∷ tree) = linked_one (bytes_eq q.id n) x link q (map (linked n link) tree) tree (linked_spot n x link tree)
 
 -- what isn't new stands where it stood
-spot_stays : (e : Edit) (tree : List Place) (x : List ℕ) → IsOld e x
-    → spot_at (plain_places e tree) x ≡ spot_at tree x
-spot_stays (SetStatus n status) tree x old = refl
-spot_stays (SetAttr n name value) tree x old = refl
-spot_stays (SetResStatus y status) tree x old = refl
-spot_stays (SetResAttr y name value) tree x old = refl
-spot_stays (Note n text) tree x old = refl
-spot_stays (AddNode n id kind job_part status) tree x old = ap (option_map spot) (found_behind _ x _ tree (old id refl))
-spot_stays (AddResource n y) tree x old = ap (option_map spot) (found_behind _ x _ tree (old y.id refl))
-spot_stays (AddLink n link) tree x old = linked_spot n x link tree
+spot_stays : (a : Act) (tree : List Place) (x : List ℕ) → IsOutside a x
+    → spot_at (act_places a tree) x ≡ spot_at tree x
+spot_stays (NodeAddition n (NewNode new)) tree x old = ap (option_map spot) (found_behind _ x _ tree (old new.id refl))
+spot_stays (NodeAddition n (NewResource y)) tree x old = ap (option_map spot) (found_behind _ x _ tree (old y.id refl))
+spot_stays (NodeAddition n (NewLink link)) tree x old = linked_spot n x link tree
+spot_stays a tree x old = refl
 
 -- so it is held as it was
 pub holder_stays : (e : Edit) (at : ℕ) (rows : List NodeRow) (recs : List SpawnRec) (x : List ℕ)
@@ -108,7 +107,7 @@ pub holder_stays : (e : Edit) (at : ℕ) (rows : List NodeRow) (recs : List Spaw
 holder_stays e at rows recs x valid free old =
     ap (λ tree. option_map (holder_at recs) (place_at tree x)) (edit_of_places e at rows valid free)
     ∙ by_spot recs (place_at (plain_places e (places rows)) x)
-    ∙ ap (option_map (holder_there recs)) (spot_stays e (places rows) x old)
+    ∙ ap (option_map (holder_there recs)) (spot_stays (act_of e) (places rows) x old)
     ∙ sym (by_spot recs (place_at (places rows) x))
 
 -- ---- the id that is added
@@ -116,17 +115,16 @@ holder_stays e at rows recs x valid free old =
 some_same : (i j : List ℕ) → Some i ≡ Some j → i ≡ j
 some_same i j e = ap (λ o. option_map_or (λ x. x) o i) e
 
+new_id : (a : Act) (at : Lookups) (i : List ℕ) → act_refusal a at ≡ None
+    → act_added_id a ≡ Some i → at.has_id i ≡ false
+new_id (NodeAddition n (NewNode new)) at i free added = ap at.has_id (sym (some_same new.id i added)) ∙ (child_new n new at free).2
+new_id (NodeAddition n (NewResource x)) at i free added = ap at.has_id (sym (some_same x.id i added)) ∙ resource_new n x at free
+new_id a at i free added = cc
+
 -- it stood nowhere
 pub new_nowhere : (e : Edit) (rows : List NodeRow) (i : List ℕ) → refusal_of e rows ≡ None
     → added_id e ≡ Some i → mem i (ids rows) ≡ false
-new_nowhere (SetStatus n status) rows i free added = cc
-new_nowhere (SetAttr n name value) rows i free added = cc
-new_nowhere (SetResStatus x status) rows i free added = cc
-new_nowhere (SetResAttr x name value) rows i free added = cc
-new_nowhere (Note n text) rows i free added = cc
-new_nowhere (AddNode n id kind job_part status) rows i free added = ap (λ x. mem x (ids rows)) (sym (some_same id i added)) ∙ (child_new rows n id status free).2
-new_nowhere (AddResource n x) rows i free added = ap (λ y. mem y (ids rows)) (sym (some_same x.id i added)) ∙ resource_new rows n x free
-new_nowhere (AddLink n link) rows i free added = cc
+new_nowhere e rows i free added = new_id (act_of e) (lookups rows) i free added
 
 none_of : (o : Option Place) → is_some o ≡ false → o ≡ None
 none_of None e = refl
@@ -157,18 +155,13 @@ own_behind f x new (q ∷ tree) own none =
 abbrev Stands : List Place → List ℕ → Type 0
 Stands tree x = (p : Place) × (place_at tree x ≡ Some p)
 
-new_stands : (e : Edit) (tree : List Place) (i x : List ℕ) → added_id e ≡ Some i
-    → bytes_eq i x ≡ true → place_at tree x ≡ None → Stands (plain_places e tree) x
-new_stands (SetStatus n status) tree i x added own none = cc
-new_stands (SetAttr n name value) tree i x added own none = cc
-new_stands (SetResStatus y status) tree i x added own none = cc
-new_stands (SetResAttr y name value) tree i x added own none = cc
-new_stands (Note n text) tree i x added own none = cc
-new_stands (AddNode n id kind job_part status) tree i x added own none =
-    (_, own_behind _ x _ tree (ap (λ j. bytes_eq j x) (some_same id i added) ∙ own) none)
-new_stands (AddResource n y) tree i x added own none =
+new_stands : (a : Act) (tree : List Place) (i x : List ℕ) → act_added_id a ≡ Some i
+    → bytes_eq i x ≡ true → place_at tree x ≡ None → Stands (act_places a tree) x
+new_stands (NodeAddition n (NewNode new)) tree i x added own none =
+    (_, own_behind _ x _ tree (ap (λ j. bytes_eq j x) (some_same new.id i added) ∙ own) none)
+new_stands (NodeAddition n (NewResource y)) tree i x added own none =
     (_, own_behind _ x _ tree (ap (λ j. bytes_eq j x) (some_same y.id i added) ∙ own) none)
-new_stands (AddLink n link) tree i x added own none = cc
+new_stands a tree i x added own none = cc
 
 -- no spawn claims it
 new_unheld : (e : Edit) (at : ℕ) (rows : List NodeRow) (recs : List SpawnRec) (x : List ℕ)
@@ -192,7 +185,7 @@ pub new_is_masters : (e : Edit) (at : ℕ) (rows : List NodeRow) (recs : List Sp
     → holder_of (edited_rows e at rows) recs x ≡ Some Master
 new_is_masters e at rows recs i x valid apart free mine added own =
     let nowhere = no_place rows x (ap (λ y. mem y (ids rows)) (sym ((bytes_eq-Decides i x).0 own)) ∙ new_nowhere e rows i free added) in
-    let stands = new_stands e (places rows) i x added own nowhere in
+    let stands = new_stands (act_of e) (places rows) i x added own nowhere in
     let there = ap (λ tree. place_at tree x) (edit_of_places e at rows valid free) ∙ stands.1 in
     ap (option_map (holder_at recs)) there
     ∙ ap (λ o. Some (option_map_or (λ (r : SpawnRec). Spawn r.id) o Master)) (new_unheld e at rows recs x stands.0 (holding_record recs stands.0) valid apart free mine nowhere there refl)

@@ -7,4 +7,5 @@ pub mod SpawnId
 pub mod SpawnStatus
 pub mod Resource
 pub mod FirstFault
+pub mod Act
 pub mod Edit

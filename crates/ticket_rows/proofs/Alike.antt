@@ -1,13 +1,12 @@
--- Where look-ups answer alike, an edit is refused alike.
+-- Where look-ups answer alike, an act is refused alike.
 use Rattle.std.proofs.Common.{◌≡◌, ◌∙◌, ℕ, not, List, [], ◌∷◌, refl, ap}
-use Rattle.ticket_rows.specs.EditRefusal.{Lookups, unknown_refusal, later_refusal, edit_refusal}
-use Rattle.ticket_rows.specs.Ticket.{is_reserved, unless, first_of}
-use Rattle.ticket_items.specs.declared.edit.Edit.{Edit}
-use Rattle.ticket_items.specs.declared.edit.Edit.TheVariants.{SetStatus, SetAttr, SetResStatus}
-use Rattle.ticket_items.specs.declared.edit.Edit.TheVariants.{SetResAttr, Note, AddNode}
-use Rattle.ticket_items.specs.declared.edit.Edit.TheVariants.{AddResource, AddLink}
+use Rattle.ticket_rows.specs.EditRefusal.{Lookups, act_unknown, act_later, act_refusal}
+use Rattle.ticket_rows.specs.EditRefusal.{status_refusal}
+use Rattle.ticket_rows.specs.Ticket.{unless, first_of}
+use Rattle.ticket_items.specs.Act.{Act, ResourceChange, NodeAddition, act_target}
+use Rattle.ticket_items.specs.Act.{NewNode, NewResource, NewLink}
 use Rattle.ticket_items.specs.declared.refusal.Refusal.TheVariants.{UnknownNode, UnknownResource}
-use Rattle.ticket_items.specs.declared.refusal.Refusal.TheVariants.{ReservedStatus, DuplicateId}
+use Rattle.ticket_items.specs.declared.refusal.Refusal.TheVariants.{DuplicateId}
 use Rattle.ticket_items.specs.declared.refusal.Refusal.TheVariants.{TooDeep, UnresolvedLink}
 
 -- they say the same of each id
@@ -18,30 +17,20 @@ pub record AreAlike (a b : Lookups) : Type 0 where
   pub rooms : (x : List ℕ) → a.has_room x ≡ b.has_room x
   pub homes : (x y : List ℕ) → a.reaches x y ≡ b.reaches x y
 
-pub unknown_alike : (e : Edit) (a b : Lookups) → AreAlike a b
-    → unknown_refusal e a ≡ unknown_refusal e b
-unknown_alike (SetStatus node status) a b alike = ap (λ k. unless k UnknownNode) (alike.nodes node)
-unknown_alike (SetAttr node name value) a b alike = ap (λ k. unless k UnknownNode) (alike.nodes node)
-unknown_alike (SetResStatus resource status) a b alike = ap (λ k. unless k UnknownResource) (alike.resources resource)
-unknown_alike (SetResAttr resource name value) a b alike = ap (λ k. unless k UnknownResource) (alike.resources resource)
-unknown_alike (Note node text) a b alike = ap (λ k. unless k UnknownNode) (alike.nodes node)
-unknown_alike (AddNode node id kind job_part status) a b alike = ap (λ k. unless k UnknownNode) (alike.nodes node)
-unknown_alike (AddResource node resource) a b alike = ap (λ k. unless k UnknownNode) (alike.nodes node)
-unknown_alike (AddLink node link) a b alike =
-    ap (λ k. first_of (unless k UnknownNode ∷ unless (a.has_resource link.rref) UnknownResource ∷ [])) (alike.nodes node)
-    ∙ ap (λ k. first_of (unless (b.has_node node) UnknownNode ∷ unless k UnknownResource ∷ [])) (alike.resources link.rref)
+pub unknown_alike : (act : Act) (a b : Lookups) → AreAlike a b → act_unknown act a ≡ act_unknown act b
+unknown_alike (ResourceChange x change) a b alike = ap (λ k. unless k UnknownResource) (alike.resources x)
+unknown_alike (NodeAddition n (NewLink link)) a b alike =
+    ap (λ k. first_of (unless k UnknownNode ∷ unless (a.has_resource link.rref) UnknownResource ∷ [])) (alike.nodes n)
+    ∙ ap (λ k. first_of (unless (b.has_node n) UnknownNode ∷ unless k UnknownResource ∷ [])) (alike.resources link.rref)
+unknown_alike act a b alike = ap (λ k. unless k UnknownNode) (alike.nodes (act_target act))
 
-pub later_alike : (e : Edit) (a b : Lookups) → AreAlike a b → later_refusal e a ≡ later_refusal e b
-later_alike (SetStatus node status) a b alike = refl
-later_alike (SetAttr node name value) a b alike = refl
-later_alike (SetResStatus resource status) a b alike = refl
-later_alike (SetResAttr resource name value) a b alike = refl
-later_alike (Note node text) a b alike = refl
-later_alike (AddNode node id kind job_part status) a b alike =
-    ap (λ k. first_of (unless (not (is_reserved status)) ReservedStatus ∷ unless (not k) DuplicateId ∷ unless (a.has_room node) TooDeep ∷ [])) (alike.ids id)
-    ∙ ap (λ k. first_of (unless (not (is_reserved status)) ReservedStatus ∷ unless (not (b.has_id id)) DuplicateId ∷ unless k TooDeep ∷ [])) (alike.rooms node)
-later_alike (AddResource node resource) a b alike = ap (λ k. unless (not k) DuplicateId) (alike.ids resource.id)
-later_alike (AddLink node link) a b alike = ap (λ k. unless k UnresolvedLink) (alike.homes node link.rref)
+pub later_alike : (act : Act) (a b : Lookups) → AreAlike a b → act_later act a ≡ act_later act b
+later_alike (NodeAddition n (NewNode new)) a b alike =
+    ap (λ k. first_of (status_refusal new.status ∷ unless (not k) DuplicateId ∷ unless (a.has_room n) TooDeep ∷ [])) (alike.ids new.id)
+    ∙ ap (λ k. first_of (status_refusal new.status ∷ unless (not (b.has_id new.id)) DuplicateId ∷ unless k TooDeep ∷ [])) (alike.rooms n)
+later_alike (NodeAddition n (NewResource x)) a b alike = ap (λ k. unless (not k) DuplicateId) (alike.ids x.id)
+later_alike (NodeAddition n (NewLink link)) a b alike = ap (λ k. unless k UnresolvedLink) (alike.homes n link.rref)
+later_alike act a b alike = refl
 
-pub refusal_alike : (e : Edit) (a b : Lookups) → AreAlike a b → edit_refusal e a ≡ edit_refusal e b
-refusal_alike e a b alike = ap (λ o. first_of (o ∷ later_refusal e a ∷ [])) (unknown_alike e a b alike) ∙ ap (λ o. first_of (unknown_refusal e b ∷ o ∷ [])) (later_alike e a b alike)
+pub refusal_alike : (act : Act) (a b : Lookups) → AreAlike a b → act_refusal act a ≡ act_refusal act b
+refusal_alike act a b alike = ap (λ o. first_of (o ∷ act_later act a ∷ [])) (unknown_alike act a b alike) ∙ ap (λ o. first_of (act_unknown act b ∷ o ∷ [])) (later_alike act a b alike)

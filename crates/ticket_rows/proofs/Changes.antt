@@ -8,8 +8,10 @@ use Rattle.std.specs.Option.{option_map}
 use Rattle.std.specs.Str.{bytes_eq}
 use Rattle.std.proofs.lemmas.Option.{slice_get-get_or}
 use Rattle.ticket_items.proofs.Places.{position-cons, below_length}
-use Rattle.ticket_items.specs.Attrs.{with_attr}
-use Rattle.ticket_rows.specs.Edit.{with_row, with_resource}
+use Rattle.ticket_items.proofs.FirstFault.{unless_holds}
+use Rattle.ticket_items.specs.Act.{Change, NewStatus, status_after}
+use Rattle.ticket_rows.specs.Edit.{with_row, with_resource, changed_node}
+use Rattle.ticket_rows.specs.EditRefusal.{change_refusal}
 use Rattle.ticket_items.specs.Resource.{with_item}
 use Rattle.ticket_items.proofs.Apart.{mem-append, later_distinct, front_distinct, other_part}
 use Rattle.ticket_rows.proofs.AtHome.{holds, any-map, home_of-cons}
@@ -21,7 +23,7 @@ use Rattle.ticket_items.specs.Ids.{mem, are_distinct}
 use Rattle.ticket_rows.specs.Outline.{is_outline}
 use Rattle.ticket_rows.specs.Place.{path_of}
 use Rattle.ticket_rows.specs.Ticket.{IsValid, ids, ids_of, is_reserved, max_depth}
-use Rattle.ticket_items.specs.declared.audit.Audit.TheVariants.{Notification}
+use Rattle.ticket_items.specs.declared.refusal.Refusal.TheVariants.{ReservedStatus}
 use Rattle.ticket_items.specs.declared.resource.Resource.{Resource}
 use Rattle.ticket_items.specs.declared.node_row.NodeRow.{NodeRow}
 
@@ -121,19 +123,16 @@ pub IsValid-with_row : (x : List ℕ) (f : NodeRow → NodeRow) (rows : List Nod
     → IsValid rows → IsValid (with_row x f rows)
 IsValid-with_row x f rows keeps valid = IsValid-kept (at_id x f) rows (keeps-at_id x f keeps) valid
 
--- ---- the edits
+-- ---- the changes of rows
 
-pub keeps-SetStatus : (status : List ℕ) → is_reserved status ≡ false
-    → KeepsTicket (λ r. record r { status = status })
-keeps-SetStatus status free = record { id = λ r. refl; depth = λ r. refl; pool = λ r. refl; links = λ r. refl; status = λ r _. ap not free }
+status-kept : (change : Change) (old : List ℕ) → change_refusal change ≡ None
+    → not (is_reserved old) ≡ true → not (is_reserved (status_after change old)) ≡ true
+status-kept (NewStatus status) old allowed free = unless_holds (not (is_reserved status)) ReservedStatus allowed
+status-kept change old allowed free = free
 
-pub keeps-SetAttr : (name value : List ℕ)
-    → KeepsTicket (λ r. record r { attrs = with_attr name value r.attrs })
-keeps-SetAttr name value = record { id = λ r. refl; depth = λ r. refl; pool = λ r. refl; links = λ r. refl; status = λ r h. h }
-
-pub keeps-Note : (at : ℕ) (text : List ℕ)
-    → KeepsTicket (λ r. record r { audits = r.audits ++ Notification at text ∷ [] })
-keeps-Note at text = record { id = λ r. refl; depth = λ r. refl; pool = λ r. refl; links = λ r. refl; status = λ r h. h }
+pub keeps-changed_node : (change : Change) (at : ℕ) → change_refusal change ≡ None
+    → KeepsTicket (changed_node change at)
+keeps-changed_node change at allowed = record { id = λ r. refl; depth = λ r. refl; pool = λ r. refl; links = λ r. refl; status = λ r free. status-kept change r.status allowed free }
 
 pub pool-kept : (x : List ℕ) (f : Resource → Resource) (pool : List Resource)
     → ((y : Resource) → (f y).id ≡ y.id)

@@ -1,8 +1,8 @@
 -- What an edit is refused for, from what was found among the rows.
 use Rattle.std.proofs.Common.{◌≡◌, ℕ, not, Bool, true, false, List, [], ◌∷◌, Option, Some, None}
 use Rattle.std.proofs.Common.{is_some, refl, sym, ap, ◌∙◌, nat_lt, get_or, slice_get, Result, Ok}
-use Rattle.std.proofs.Common.{Err, IfErr, IfNone, IsOk}
-use Rattle.std.proofs.lemmas.Bool.{true≢false}
+use Rattle.std.proofs.Common.{Err, IfErr, IfNone, IsOk, cond}
+use Rattle.std.proofs.lemmas.Bool.{true≢false, not-true}
 use Rattle.std.proofs.lemmas.Option.{slice_get-get_or}
 use Rattle.std.specs.List.{position}
 use Rattle.std.specs.Option.{option_map, option_map_or, option_and_then}
@@ -10,15 +10,18 @@ use Rattle.std.specs.Str.{bytes_eq}
 use Rattle.ticket_rows.proofs.AtHome.{holds, in_pool, entry-found, home-found, home_row}
 use Rattle.ticket_rows.proofs.AtHome.{find-passes, none-found}
 use Rattle.ticket_items.proofs.Places.{is_some-find, found_at_position, none_at_position}
+use Rattle.ticket_items.proofs.FirstFault.{none_first, unless_holds}
 use Rattle.ticket_items.proofs.Places.{below_length, same_found}
 use Rattle.ticket_rows.proofs.Below.{mem-node_ids}
-use Rattle.ticket_rows.specs.Edit.{node_refusal, resource_refusal, refusal_of, has_room, reaches}
+use Rattle.ticket_rows.specs.Edit.{node_refusal, resource_refusal, lookups, has_room, reaches}
+use Rattle.ticket_rows.specs.EditRefusal.{Lookups, act_refusal, act_unknown, act_later}
 use Rattle.ticket_rows.specs.Homes.{has_resource}
 use Rattle.ticket_items.specs.Ids.{mem}
 use Rattle.ticket_rows.specs.Place.{is_below, node_places}
 use Rattle.ticket_rows.specs.Ticket.{has_node, ids, node_ids, is_reserved, row_of, unless, first_of}
-use Rattle.ticket_items.specs.declared.edit.Edit.TheVariants.{SetStatus, AddNode, AddResource}
-use Rattle.ticket_items.specs.declared.edit.Edit.TheVariants.{AddLink}
+use Rattle.ticket_items.specs.Act.{Act, NodeChange, ResourceChange, NodeAddition, NewStatus}
+use Rattle.ticket_items.specs.Act.{NewNode, NewResource, NewLink, BareNode, act_target}
+use Rattle.ticket_items.specs.Act.{is_act_of_node}
 use Rattle.ticket_items.specs.declared.link.Link.{Link}
 use Rattle.ticket_items.specs.declared.node_row.NodeRow.{NodeRow}
 use Rattle.ticket_items.specs.declared.resource.Resource.{Resource}
@@ -78,12 +81,14 @@ fourth true true false d none e = cc
 fourth true false c d none e = cc
 fourth false b c d none e = cc
 
-pub child_reason : (rows : List NodeRow) (node id status : List ℕ) (k : ℕ) (r : NodeRow)
-    → refusal_of (SetStatus node status) rows ≡ None → mem id (ids rows) ≡ false
-    → position (λ s. bytes_eq s.id node) rows ≡ Some k → r ≡ get_or rows k r
-    → refusal_of (AddNode node id [] [] status) rows ≡ unless (nat_lt r.depth 32) TooDeep
-child_reason rows node id status k r before new found is =
-    fourth _ _ (not (mem id (ids rows))) (has_room rows node) before (ap not new)
+pub child_reason : (rows : List NodeRow) (node : List ℕ) (child : BareNode) (k : ℕ) (r : NodeRow)
+    → act_refusal (NodeChange node (NewStatus child.status)) (lookups rows) ≡ None
+    → mem child.id (ids rows) ≡ false → position (λ s. bytes_eq s.id node) rows ≡ Some k
+    → r ≡ get_or rows k r
+    → act_refusal (NodeAddition node (NewNode child)) (lookups rows)
+    ≡ unless (nat_lt r.depth 32) TooDeep
+child_reason rows node child k r before new found is =
+    fourth _ _ (not (mem child.id (ids rows))) (has_room rows node) before (ap not new)
     ∙ ap (λ o. unless (option_map_or (λ s. nat_lt s.depth 32) o false) TooDeep) (row_there rows node k r found is)
 
 third : (a b c : Bool) → unless a UnknownNode ≡ None → unless b UnknownResource ≡ None
@@ -100,75 +105,47 @@ pub link_reason : (rows : List NodeRow) (node : List ℕ) (link : Link) (k : ℕ
     → node_refusal node rows ≡ None → resource_refusal link.rref rows ≡ None
     → position (holds link.rref) rows ≡ Some k → r ≡ get_or rows k r
     → b ≡ is_below (node_places rows) node r.id
-    → refusal_of (AddLink node link) rows ≡ unless b UnresolvedLink
+    → act_refusal (NodeAddition node (NewLink link)) (lookups rows) ≡ unless b UnresolvedLink
 link_reason rows node link k r b known there found is below =
     third _ _ (reaches rows node link.rref) known there
     ∙ ap (λ o. unless (option_map_or (is_below (node_places rows) node) o false) UnresolvedLink) (home-found rows link.rref r (home_row rows link.rref k r found is))
     ∙ ap (λ c. unless c UnresolvedLink) (sym below)
 
--- ---- what a reason that doesn't hold says
+-- ---- what is known where an act isn't refused
 
-free_at : (a r : Bool) → first_of (unless a UnknownNode ∷ unless (not r) ReservedStatus ∷ []) ≡ None
-    → r ≡ false
-free_at true true e = cc
-free_at true false e = refl
-free_at false r e = cc
+pub named_known : (a : Act) (at : Lookups) → act_unknown a at ≡ None
+    → cond (is_act_of_node a) (at.has_node (act_target a)) (at.has_resource (act_target a)) ≡ true
+named_known (ResourceChange x change) at none = unless_holds (at.has_resource x) UnknownResource none
+named_known (NodeAddition n (NewLink link)) at none = unless_holds (at.has_node n) UnknownNode (none_first _ _ none).0
+named_known a at none = unless_holds (at.has_node (act_target a)) UnknownNode none
 
-pub status_free : (rows : List NodeRow) (node status : List ℕ)
-    → refusal_of (SetStatus node status) rows ≡ None → is_reserved status ≡ false
-status_free rows node status none = free_at (has_node rows node) (is_reserved status) none
+pub target_known : (a : Act) (at : Lookups) → act_refusal a at ≡ None
+    → cond (is_act_of_node a) (at.has_node (act_target a)) (at.has_resource (act_target a)) ≡ true
+target_known a at free = named_known a at (none_first _ _ free).0
 
-reached_at : (a b c : Bool)
-    → first_of
-    (first_of (unless a UnknownNode ∷ unless b UnknownResource ∷ []) ∷ unless c UnresolvedLink ∷ [])
-    ≡ None
-    → c ≡ true
-reached_at true true true e = refl
-reached_at true true false e = cc
-reached_at true false c e = cc
-reached_at false b c e = cc
+pub later_free : (a : Act) (at : Lookups) → act_refusal a at ≡ None → act_later a at ≡ None
+later_free a at free = (none_first _ _ (none_first (act_unknown a at) (act_later a at ∷ []) free).1).0
 
-pub link_reached : (rows : List NodeRow) (node : List ℕ) (link : Link)
-    → refusal_of (AddLink node link) rows ≡ None → reaches rows node link.rref ≡ true
-link_reached rows node link none = reached_at (has_node rows node) (has_resource rows link.rref) (reaches rows node link.rref) none
+free_of : (b : Bool) (e : Refusal) → unless (not b) e ≡ None → b ≡ false
+free_of b e free = not-true b (unless_holds (not b) e free)
 
-new_at : (a m : Bool) → first_of (unless a UnknownNode ∷ unless (not m) DuplicateId ∷ []) ≡ None
-    → m ≡ false
-new_at true true e = cc
-new_at true false e = refl
-new_at false m e = cc
+pub link_reached : (n : List ℕ) (link : Link) (at : Lookups)
+    → act_refusal (NodeAddition n (NewLink link)) at ≡ None → at.reaches n link.rref ≡ true
+link_reached n link at free = unless_holds _ _ (later_free (NodeAddition n (NewLink link)) at free)
 
-pub resource_new : (rows : List NodeRow) (node : List ℕ) (x : Resource)
-    → refusal_of (AddResource node x) rows ≡ None → mem x.id (ids rows) ≡ false
-resource_new rows node x none = new_at (has_node rows node) (mem x.id (ids rows)) none
+pub resource_new : (n : List ℕ) (x : Resource) (at : Lookups)
+    → act_refusal (NodeAddition n (NewResource x)) at ≡ None → at.has_id x.id ≡ false
+resource_new n x at free = free_of _ _ (later_free (NodeAddition n (NewResource x)) at free)
 
-child_at : (a r m d : Bool)
-    → first_of
-    (unless a UnknownNode
-    ∷ first_of (unless (not r) ReservedStatus ∷ unless (not m) DuplicateId ∷ unless d TooDeep ∷ [])
-    ∷ [])
-    ≡ None
-    → (a ≡ true) × (r ≡ false) × (m ≡ false) × (d ≡ true)
-child_at true false false true e = (refl, refl, refl, refl)
-child_at true false false false e = cc
-child_at true false true d e = cc
-child_at true true m d e = cc
-child_at false r m d e = cc
-
-pub child_new : (rows : List NodeRow) (node id status : List ℕ)
-    → refusal_of (AddNode node id [] [] status) rows ≡ None
-    → (has_node rows node ≡ true) × (is_reserved status ≡ false) × (mem id (ids rows) ≡ false)
-    × (has_room rows node ≡ true)
-child_new rows node id status none = child_at (has_node rows node) (is_reserved status) (mem id (ids rows)) (has_room rows node) none
-
-known_at : (a m : Bool) → first_of (unless a UnknownNode ∷ unless (not m) DuplicateId ∷ []) ≡ None
-    → a ≡ true
-known_at true m e = refl
-known_at false m e = cc
-
-pub resource_known : (rows : List NodeRow) (node : List ℕ) (x : Resource)
-    → refusal_of (AddResource node x) rows ≡ None → has_node rows node ≡ true
-resource_known rows node x none = known_at (has_node rows node) (mem x.id (ids rows)) none
+pub child_new : (n : List ℕ) (child : BareNode) (at : Lookups)
+    → act_refusal (NodeAddition n (NewNode child)) at ≡ None
+    → (at.has_node n ≡ true) × (is_reserved child.status ≡ false) × (at.has_id child.id ≡ false)
+    × (at.has_room n ≡ true)
+child_new n child at free =
+    let status = none_first _ _ (later_free (NodeAddition n (NewNode child)) at free) in
+    let id = none_first _ _ status.1 in
+    let room = none_first _ _ id.1 in
+    (target_known (NodeAddition n (NewNode child)) at free, free_of _ _ status.0, free_of _ _ id.0, unless_holds _ _ room.0)
 
 -- a node's id is among the ids of nodes
 pub node_among : (rows : List NodeRow) (x : List ℕ) → has_node rows x ≡ true

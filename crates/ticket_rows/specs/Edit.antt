@@ -4,19 +4,16 @@ use Rattle.std.specs.Prelude.{if◌then◌else◌, nat_lt, Option}
 use Rattle.std.specs.List.{list_any}
 use Rattle.std.specs.Option.{option_map_or}
 use Rattle.std.specs.Str.{bytes_eq}
-use Rattle.ticket_items.specs.Attrs.{with_attr}
-use Rattle.ticket_items.specs.Edit.{is_of_node, target}
+use Rattle.ticket_items.specs.Act.{Act, NodeChange, ResourceChange, NodeAddition, act_of}
+use Rattle.ticket_items.specs.Act.{Change, status_after, attrs_after, audits_after}
+use Rattle.ticket_items.specs.Act.{NewNode, NewResource, NewLink}
 use Rattle.ticket_rows.specs.Homes.{has_resource, home_of}
 use Rattle.ticket_items.specs.Ids.{mem}
 use Rattle.ticket_rows.specs.Place.{is_below, node_places}
 use Rattle.ticket_items.specs.Resource.{with_item}
 use Rattle.ticket_rows.specs.EditRefusal.{Lookups, edit_refusal, no_node, no_resource}
 use Rattle.ticket_rows.specs.Ticket.{Job, has_node, ids, max_depth, row_of}
-use Rattle.ticket_items.specs.declared.audit.Audit.TheVariants.{Notification}
 use Rattle.ticket_items.specs.declared.edit.Edit.{Edit}
-use Rattle.ticket_items.specs.declared.edit.Edit.TheVariants.{SetStatus, SetAttr, SetResStatus}
-use Rattle.ticket_items.specs.declared.edit.Edit.TheVariants.{SetResAttr, Note, AddNode}
-use Rattle.ticket_items.specs.declared.edit.Edit.TheVariants.{AddResource, AddLink}
 use Rattle.ticket_items.specs.declared.node_row.NodeRow.{NodeRow}
 use Rattle.ticket_items.specs.declared.refusal.Refusal.{Refusal}
 use Rattle.ticket_items.specs.declared.resource.Resource.{Resource}
@@ -95,29 +92,34 @@ bare_row id kind job_part status depth =
       audits = [];
     }
 
--- what an edit at a time makes of the node that it changes. A new node is none of it
-abbrev pub node_after : Edit → ℕ → NodeRow → NodeRow
-node_after (SetStatus node status) at r = record r { status = status }
-node_after (SetAttr node name value) at r = record r { attrs = with_attr name value r.attrs }
-node_after (Note node text) at r = record r { audits = r.audits ++ Notification at text ∷ [] }
-node_after (AddResource node resource) at r = record r { resources = r.resources ++ resource ∷ [] }
-node_after (AddLink node link) at r = record r { links = r.links ++ link ∷ [] }
-node_after e at r = r
+-- a node after a change at a time, and a resource, which has no audits
+abbrev pub changed_node : Change → ℕ → NodeRow → NodeRow
+changed_node change at r =
+    record r {
+      status = status_after change r.status;
+      attrs = attrs_after change r.attrs;
+      audits = audits_after change at r.audits;
+    }
 
--- what an edit makes of the resource that it changes
-abbrev pub resource_after : Edit → Resource → Resource
-resource_after (SetResStatus resource status) y = record y { status = status }
-resource_after (SetResAttr resource name value) y =
-    record y { attrs = with_attr name value y.attrs }
-resource_after e y = y
+abbrev pub changed_resource : Change → Resource → Resource
+changed_resource change y =
+    record y { status = status_after change y.status; attrs = attrs_after change y.attrs }
 
--- the rows after an edit at a time that isn't refused
+-- the rows after an act at a time that isn't refused
+abbrev pub act_rows : Act → ℕ → List NodeRow → List NodeRow
+act_rows (NodeChange node change) at rows = with_row node (changed_node change at) rows
+act_rows (ResourceChange resource change) at rows =
+    with_resource resource (changed_resource change) rows
+act_rows (NodeAddition node (NewNode new)) at rows =
+    with_child node (bare_row new.id new.kind new.job_part new.status) rows
+act_rows (NodeAddition node (NewResource x)) at rows =
+    with_row node (λ (r : NodeRow). record r { resources = r.resources ++ x ∷ [] }) rows
+act_rows (NodeAddition node (NewLink link)) at rows =
+    with_row node (λ (r : NodeRow). record r { links = r.links ++ link ∷ [] }) rows
+
+-- and after an edit
 abbrev pub edited_rows : Edit → ℕ → List NodeRow → List NodeRow
-edited_rows (AddNode node id kind job_part status) at rows =
-    with_child node (bare_row id kind job_part status) rows
-edited_rows e at rows =
-    if is_of_node e then with_row (target e) (node_after e at) rows
-    else with_resource (target e) (resource_after e) rows
+edited_rows e at rows = act_rows (act_of e) at rows
 
 -- the ticket after an edit that isn't refused
 abbrev pub job_after_edit : Edit → ℕ → Job → Job

@@ -1,9 +1,9 @@
 -- The edits of a part that aren't structural: of its rows, and of the copies that may be changed.
-use Rattle.std.specs.Prelude.{◌≡◌, ℕ, ◌||◌, true, false, List, if◌then◌else◌, Option}
+use Rattle.std.specs.Prelude.{◌≡◌, ℕ, ◌||◌, true, false, List, Option}
 use Rattle.ticket_items.specs.Ids.{mem, are_distinct}
 use Rattle.ticket_items.specs.Resource.{resource_ids, with_item}
-use Rattle.ticket_items.specs.Edit.{is_of_node, target}
-use Rattle.ticket_rows.specs.Edit.{lookups, resource_after}
+use Rattle.ticket_items.specs.Act.{Act, ResourceChange, act_of}
+use Rattle.ticket_rows.specs.Edit.{lookups, changed_resource}
 use Rattle.ticket_rows.specs.EditRefusal.{Lookups, edit_refusal}
 use Rattle.ticket_rows.specs.Homes.{has_resource}
 use Rattle.ticket_rows.specs.Ticket.{ids}
@@ -27,7 +27,10 @@ part_lookups rows copies =
 abbrev pub part_refusal : Edit → List NodeRow → List Resource → Option Refusal
 part_refusal e rows copies = edit_refusal e (part_lookups rows copies)
 
--- the copies after an edit
+-- the copies after an act, and after an edit
+abbrev pub act_copies : Act → List Resource → List Resource
+act_copies (ResourceChange x change) copies = with_item x (changed_resource change) copies
+act_copies a copies = copies
+
 abbrev pub edited_copies : Edit → List Resource → List Resource
-edited_copies e copies =
-    if is_of_node e then copies else with_item (target e) (resource_after e) copies
+edited_copies e copies = act_copies (act_of e) copies

@@ -1,5 +1,5 @@
 -- Edits of a part, as edits of its rows with copies.
-use Rattle.std.proofs.Common.{◌≡◌, ℕ, ◌||◌, Bool, true, false, not, cond, List, [], ◌∷◌, ◌++◌, Option, Some, None, Result, Ok, Err, OnOk, OnErr, IfSome, refl, sym, ap, ◌∙◌, subst}
+use Rattle.std.proofs.Common.{◌≡◌, ℕ, ◌||◌, Bool, true, false, cond, List, [], ◌∷◌, ◌++◌, Option, Some, None, Result, Ok, Err, OnOk, OnErr, IfSome, refl, sym, ap, ◌∙◌, subst}
 use Rattle.std.proofs.lemmas.Bool.{true≢false, and_parts, and_from, not-true, not_from_false}
 use Rattle.std.proofs.lemmas.List.{map-append, append-nil}
 use Rattle.std.specs.List.{list_any}
@@ -7,34 +7,34 @@ use Rattle.std.specs.Str.{bytes_eq}
 use Rattle.ticket_items.proofs.Apart.{mem-append, or_false, later_part, later_distinct, front_distinct, other_part, not_in_front}
 use Rattle.ticket_items.proofs.AtKey.{at_key-none}
 use Rattle.ticket_items.proofs.Places.{is_some-find}
-use Rattle.ticket_items.specs.Attrs.{with_attr}
+use Rattle.ticket_items.specs.Act.{Act, NodeChange, ResourceChange, NodeAddition, act_of, act_target, is_act_structural}
 use Rattle.ticket_items.specs.Ids.{mem, are_distinct}
 use Rattle.ticket_items.specs.Resource.{resource_ids, with_item}
-use Rattle.ticket_items.specs.declared.audit.Audit.TheVariants.{Notification}
 use Rattle.ticket_items.specs.declared.edit.Edit.{Edit}
-use Rattle.ticket_items.specs.declared.edit.Edit.TheVariants.{SetStatus, SetAttr, SetResStatus, SetResAttr, Note, AddNode, AddResource, AddLink}
 use Rattle.ticket_items.specs.declared.node_row.NodeRow.{NodeRow}
 use Rattle.ticket_items.specs.declared.refusal.Refusal.{Refusal}
-use Rattle.ticket_items.specs.declared.refusal.Refusal.TheVariants.{UnknownNode, UnknownResource, ReservedStatus}
+use Rattle.ticket_items.specs.declared.refusal.Refusal.TheVariants.{UnknownNode, UnknownResource}
 use Rattle.ticket_items.specs.declared.resource.Resource.{Resource}
 use Rattle.ticket_rows.proofs.AtHome.{holds, any-map}
-use Rattle.ticket_rows.proofs.Changes.{IsValid-with_row, IsValid-with_resource, keeps-SetStatus, keeps-SetAttr, keeps-Note}
+use Rattle.ticket_rows.proofs.Changes.{IsValid-with_row, IsValid-with_resource, keeps-changed_node}
 use Rattle.ticket_rows.proofs.Copies.{ids-copies, mem-copies}
-use Rattle.ticket_rows.proofs.Reasons.{status_free, node_among}
+use Rattle.ticket_rows.proofs.Reasons.{later_free, node_among, target_known}
 use Rattle.ticket_rows.specs.Copies.{with_copies}
 use Rattle.ticket_items.specs.Edit.{is_structural}
-use Rattle.ticket_rows.specs.Edit.{edited_rows, with_row, with_resource}
+use Rattle.ticket_rows.specs.Edit.{act_rows, changed_node, changed_resource, edited_rows, lookups, with_row, with_resource}
+use Rattle.ticket_rows.specs.EditRefusal.{Lookups, act_refusal, change_refusal}
 use Rattle.ticket_rows.specs.Homes.{has_resource}
-use Rattle.ticket_rows.specs.PartEdit.{AreApart, edited_copies, part_refusal}
+use Rattle.ticket_rows.specs.PartEdit.{AreApart, edited_copies, part_lookups, part_refusal}
 use Rattle.ticket_rows.specs.Place.{places, row_in}
-use Rattle.ticket_rows.specs.Ticket.{IsValid, has_node, ids, ids_of, node_ids, is_reserved, unless, first_of}
+use Rattle.ticket_rows.specs.Ticket.{IsValid, has_node, ids, ids_of, node_ids, unless, first_of}
 use Rattle.ticket_tree.proofs.ById.{node_no_resource, resource_no_node, resource_ids as pool_ids}
 use Rattle.ticket_tree.proofs.OnPlaces.{has_resource-any}
 use Rattle.ticket_tree.proofs.PlainPlaces.{places-with_row, places-with_resource}
-use Rattle.ticket_tree.proofs.PlainRows.{mem-resource_ids, changed_node, changed_resource, known_first, known_only, held_only}
+use Rattle.ticket_tree.proofs.PlainRows.{mem-resource_ids, node_touched, resource_touched}
 use Rattle.ticket_tree.specs.Laws.{PartRefusalIsOfOwnRows, PartEditIsValid, PartEditOfPlaces, PartEditOfRows}
-use Rattle.ticket_tree.specs.Part.{PartCopy, part_copy}
+use Rattle.ticket_tree.specs.Part.{PartCopy, act_part, part_copy}
 use Rattle.ticket_tree.specs.PartView.{own_rows}
+use Rattle.ticket_tree.specs.PlainEdit.{act_row, changed_row, changed_resource_row, with_row_changed}
 
 -- ---- ids that are apart
 
@@ -95,16 +95,13 @@ has_resource-copies (r ∷ rows) rw ro x valid =
     ∙ ap (λ b. b || list_any (holds x) rows) (sym (mem-copies r rw [] x) ∙ any-map x ((r.resources ++ rw) ++ []))
     ∙ has_resource-any (with_copies (r ∷ rows) rw []) x
 
+act_refusal_is_of_own_rows : (a : Act) (p : PartCopy) → IsValid (with_copies p.rows p.rw p.ro) → is_act_structural a ≡ false → act_refusal a (part_lookups p.rows p.rw) ≡ act_refusal a (lookups (own_rows p))
+act_refusal_is_of_own_rows (NodeChange n change) p valid plain = ap (λ b. first_of (unless b UnknownNode ∷ change_refusal change ∷ [])) (sym (has_node-copies p.rows p.rw [] n))
+act_refusal_is_of_own_rows (ResourceChange x change) p valid plain = ap (λ b. first_of (unless b UnknownResource ∷ None ∷ [])) (has_resource-copies p.rows p.rw p.ro x valid)
+act_refusal_is_of_own_rows (NodeAddition n addition) p valid plain = absurd (true≢false plain)
+
 pub part_refusal_is_of_own_rows : PartRefusalIsOfOwnRows
-part_refusal_is_of_own_rows (SetStatus n status) p valid plain =
-    ap (λ b. first_of (unless b UnknownNode ∷ unless (not (is_reserved status)) ReservedStatus ∷ [])) (sym (has_node-copies p.rows p.rw [] n))
-part_refusal_is_of_own_rows (SetAttr n name value) p valid plain = ap (λ b. first_of (unless b UnknownNode ∷ None ∷ [])) (sym (has_node-copies p.rows p.rw [] n))
-part_refusal_is_of_own_rows (SetResStatus x status) p valid plain = ap (λ b. first_of (unless b UnknownResource ∷ None ∷ [])) (has_resource-copies p.rows p.rw p.ro x valid)
-part_refusal_is_of_own_rows (SetResAttr x name value) p valid plain = ap (λ b. first_of (unless b UnknownResource ∷ None ∷ [])) (has_resource-copies p.rows p.rw p.ro x valid)
-part_refusal_is_of_own_rows (Note n text) p valid plain = ap (λ b. first_of (unless b UnknownNode ∷ None ∷ [])) (sym (has_node-copies p.rows p.rw [] n))
-part_refusal_is_of_own_rows (AddNode n id kind job_part status) p valid plain = absurd (true≢false plain)
-part_refusal_is_of_own_rows (AddResource n x) p valid plain = absurd (true≢false plain)
-part_refusal_is_of_own_rows (AddLink n link) p valid plain = absurd (true≢false plain)
+part_refusal_is_of_own_rows e p valid plain = act_refusal_is_of_own_rows (act_of e) p valid plain
 
 -- ---- an edit of the rows with copies
 
@@ -159,22 +156,23 @@ not_to_read (r ∷ rows) rw ro x valid there =
     apart_from x false false false m true e some front later = later (some refl)
     apart_from x false false false m false e some front later = absurd (true≢false (sym e))
 
+-- what an act that isn't structural makes of the rows with the copies, where it isn't refused
+act_with_copies : (a : Act) (at : ℕ) (p : PartCopy) → IsValid (with_copies p.rows p.rw p.ro) → is_act_structural a ≡ false → act_refusal a (part_lookups p.rows p.rw) ≡ None
+    → with_copies (act_part a at p).rows (act_part a at p).rw p.ro ≡ act_rows a at (with_copies p.rows p.rw p.ro)
+act_with_copies (NodeChange n change) at p valid plain free = with_row-copies n (changed_node change at) p.rows p.rw p.ro (λ r rw ro. refl)
+act_with_copies (ResourceChange x change) at p valid plain free =
+    with_resource-copies x (changed_resource change) p.rows p.rw p.ro (not_to_read p.rows p.rw p.ro x valid (target_known (ResourceChange x change) (part_lookups p.rows p.rw) free))
+act_with_copies (NodeAddition n addition) at p valid plain free = absurd (true≢false plain)
+
+-- rows that it changes stay valid
+valid_changed : (a : Act) (at : ℕ) (ask : Lookups) (rows : List NodeRow) → IsValid rows → is_act_structural a ≡ false → act_refusal a ask ≡ None → IsValid (act_rows a at rows)
+valid_changed (NodeChange n change) at ask rows valid plain free = IsValid-with_row n (changed_node change at) rows (keeps-changed_node change at (later_free (NodeChange n change) ask free)) valid
+valid_changed (ResourceChange x change) at ask rows valid plain free = IsValid-with_resource x (changed_resource change) rows (λ y. refl) valid
+valid_changed (NodeAddition n addition) at ask rows valid plain free = absurd (true≢false plain)
+
 pub part_edit_is_valid : PartEditIsValid
-part_edit_is_valid (SetStatus n status) at p valid plain free =
-    subst IsValid (sym (with_row-copies n (λ r. record r { status = status }) p.rows p.rw p.ro (λ r rw ro. refl))) (IsValid-with_row n (λ r. record r { status = status }) (with_copies p.rows p.rw p.ro) (keeps-SetStatus status (status_free p.rows n status free)) valid)
-part_edit_is_valid (SetAttr n name value) at p valid plain free =
-    subst IsValid (sym (with_row-copies n (λ r. record r { attrs = with_attr name value r.attrs }) p.rows p.rw p.ro (λ r rw ro. refl))) (IsValid-with_row n (λ r. record r { attrs = with_attr name value r.attrs }) (with_copies p.rows p.rw p.ro) (keeps-SetAttr name value) valid)
-part_edit_is_valid (SetResStatus x status) at p valid plain free =
-    subst IsValid (sym (with_resource-copies x (λ y. record y { status = status }) p.rows p.rw p.ro (not_to_read p.rows p.rw p.ro x valid (held_only _ free)))) (IsValid-with_resource x (λ y. record y { status = status }) (with_copies p.rows p.rw p.ro) (λ y. refl) valid)
-part_edit_is_valid (SetResAttr x name value) at p valid plain free =
-    subst IsValid (sym (with_resource-copies x (λ y. record y { attrs = with_attr name value y.attrs }) p.rows p.rw p.ro (not_to_read p.rows p.rw p.ro x valid (held_only _ free))))
-    (IsValid-with_resource x (λ y. record y { attrs = with_attr name value y.attrs }) (with_copies p.rows p.rw p.ro) (λ y. refl) valid)
-part_edit_is_valid (Note n text) at p valid plain free =
-    subst IsValid (sym (with_row-copies n (λ r. record r { audits = r.audits ++ Notification at text ∷ [] }) p.rows p.rw p.ro (λ r rw ro. refl)))
-    (IsValid-with_row n (λ r. record r { audits = r.audits ++ Notification at text ∷ [] }) (with_copies p.rows p.rw p.ro) (keeps-Note at text) valid)
-part_edit_is_valid (AddNode n id kind job_part status) at p valid plain free = absurd (true≢false plain)
-part_edit_is_valid (AddResource n x) at p valid plain free = absurd (true≢false plain)
-part_edit_is_valid (AddLink n link) at p valid plain free = absurd (true≢false plain)
+part_edit_is_valid e at p valid plain free =
+    subst IsValid (sym (act_with_copies (act_of e) at p valid plain free)) (valid_changed (act_of e) at (part_lookups p.rows p.rw) (with_copies p.rows p.rw p.ro) valid plain free)
 
 -- nothing is refused where the result is no refusal
 unrefused : {A : Type 0} (o : Option Refusal) (v : A) → IfSome o (λ e. Ok v ≡ Err e) → o ≡ None
@@ -191,22 +189,19 @@ part_is_left (Err x) e at rows new rw copies ro valid plain is_new is_copies sta
 
 -- ---- on the plain ticket
 
+-- the same of the rows with the copies that may be changed
+act_of_own_rows : (a : Act) (at : ℕ) (p : PartCopy) → is_act_structural a ≡ false → own_rows (act_part a at p) ≡ act_rows a at (own_rows p)
+act_of_own_rows (NodeChange n change) at p plain = with_row-copies n (changed_node change at) p.rows p.rw [] (λ r rw ro. refl)
+act_of_own_rows (ResourceChange x change) at p plain = with_resource-copies x (changed_resource change) p.rows p.rw [] refl
+act_of_own_rows (NodeAddition n addition) at p plain = absurd (true≢false plain)
+
+places_stay : (a : Act) (at : ℕ) (rows : List NodeRow) → is_act_structural a ≡ false → places (act_rows a at rows) ≡ places rows
+places_stay (NodeChange n change) at rows plain = places-with_row n (changed_node change at) [] rows (record { path = λ before r. refl; places = λ path r. refl })
+places_stay (ResourceChange x change) at rows plain = places-with_resource x (changed_resource change) [] rows (λ path y. refl)
+places_stay (NodeAddition n addition) at rows plain = absurd (true≢false plain)
+
 pub part_edit_of_places : PartEditOfPlaces
-part_edit_of_places (SetStatus n status) at p valid plain free =
-    ap places (with_row-copies n (λ r. record r { status = status }) p.rows p.rw [] (λ r rw ro. refl)) ∙ places-with_row n (λ r. record r { status = status }) [] (own_rows p) (record { path = λ before r. refl; places = λ path r. refl })
-part_edit_of_places (SetAttr n name value) at p valid plain free =
-    ap places (with_row-copies n (λ r. record r { attrs = with_attr name value r.attrs }) p.rows p.rw [] (λ r rw ro. refl))
-    ∙ places-with_row n (λ r. record r { attrs = with_attr name value r.attrs }) [] (own_rows p) (record { path = λ before r. refl; places = λ path r. refl })
-part_edit_of_places (SetResStatus x status) at p valid plain free =
-    ap places (with_resource-copies x (λ y. record y { status = status }) p.rows p.rw [] refl) ∙ places-with_resource x (λ y. record y { status = status }) [] (own_rows p) (λ path y. refl)
-part_edit_of_places (SetResAttr x name value) at p valid plain free =
-    ap places (with_resource-copies x (λ y. record y { attrs = with_attr name value y.attrs }) p.rows p.rw [] refl) ∙ places-with_resource x (λ y. record y { attrs = with_attr name value y.attrs }) [] (own_rows p) (λ path y. refl)
-part_edit_of_places (Note n text) at p valid plain free =
-    ap places (with_row-copies n (λ r. record r { audits = r.audits ++ Notification at text ∷ [] }) p.rows p.rw [] (λ r rw ro. refl))
-    ∙ places-with_row n (λ r. record r { audits = r.audits ++ Notification at text ∷ [] }) [] (own_rows p) (record { path = λ before r. refl; places = λ path r. refl })
-part_edit_of_places (AddNode n id kind job_part status) at p valid plain free = absurd (true≢false plain)
-part_edit_of_places (AddResource n x) at p valid plain free = absurd (true≢false plain)
-part_edit_of_places (AddLink n link) at p valid plain free = absurd (true≢false plain)
+part_edit_of_places e at p valid plain free = ap places (act_of_own_rows (act_of e) at p plain) ∙ places_stay (act_of e) at (own_rows p) plain
 
 -- the ids of the rows with the copies that may be changed are distinct
 own_distinct : (rows : List NodeRow) (rw ro : List Resource) → IsValid (with_copies rows rw ro) → are_distinct (ids (with_copies rows rw [])) ≡ true
@@ -223,23 +218,13 @@ own_resource : (p : PartCopy) (x : List ℕ) → IsValid (with_copies p.rows p.r
 own_resource p x valid known =
     resource_no_node x (own_rows p) (own_distinct p.rows p.rw p.ro valid) (mem-resource_ids x (own_rows p) ∙ has_resource-any (own_rows p) x ∙ sym (has_resource-copies p.rows p.rw p.ro x valid) ∙ known)
 
+row_touched : (a : Act) (at : ℕ) (p : PartCopy) → IsValid (with_copies p.rows p.rw p.ro) → is_act_structural a ≡ false → act_refusal a (part_lookups p.rows p.rw) ≡ None
+    → (y : List ℕ) → row_in (act_rows a at (own_rows p)) y ≡ with_row_changed (act_target a) (act_row a at) (row_in (own_rows p)) y
+row_touched (NodeChange n change) at p valid plain free y =
+    node_touched n (changed_node change at) (changed_row change at) (own_rows p) y (record { id = λ r. refl; pool = λ r. refl; row = λ r. refl }) (own_node p n valid (target_known (NodeChange n change) (part_lookups p.rows p.rw) free))
+row_touched (ResourceChange x change) at p valid plain free y =
+    resource_touched x (changed_resource change) (changed_resource_row change) (own_rows p) y (λ z. refl) (λ z. refl) (own_resource p x valid (target_known (ResourceChange x change) (part_lookups p.rows p.rw) free))
+row_touched (NodeAddition n addition) at p valid plain free y = absurd (true≢false plain)
+
 pub part_edit_of_rows : PartEditOfRows
-part_edit_of_rows (SetStatus n status) at p valid plain free y =
-    ap (λ rs. row_in rs y) (with_row-copies n (λ r. record r { status = status }) p.rows p.rw [] (λ r rw ro. refl))
-    ∙ changed_node n (λ r. record r { status = status }) (λ r. record r { status = status }) (own_rows p) y (record { id = λ r. refl; pool = λ r. refl; row = λ r. refl }) (own_node p n valid (known_first _ (is_reserved status) free))
-part_edit_of_rows (SetAttr n name value) at p valid plain free y =
-    ap (λ rs. row_in rs y) (with_row-copies n (λ r. record r { attrs = with_attr name value r.attrs }) p.rows p.rw [] (λ r rw ro. refl))
-    ∙ changed_node n (λ r. record r { attrs = with_attr name value r.attrs }) (λ r. record r { attrs = with_attr name value r.attrs }) (own_rows p) y (record { id = λ r. refl; pool = λ r. refl; row = λ r. refl }) (own_node p n valid (known_only _ free))
-part_edit_of_rows (SetResStatus x status) at p valid plain free y =
-    ap (λ rs. row_in rs y) (with_resource-copies x (λ y. record y { status = status }) p.rows p.rw [] refl)
-    ∙ changed_resource x (λ z. record z { status = status }) (λ r. record r { status = status }) (own_rows p) y (λ z. refl) (λ z. refl) (own_resource p x valid (held_only _ free))
-part_edit_of_rows (SetResAttr x name value) at p valid plain free y =
-    ap (λ rs. row_in rs y) (with_resource-copies x (λ y. record y { attrs = with_attr name value y.attrs }) p.rows p.rw [] refl)
-    ∙ changed_resource x (λ z. record z { attrs = with_attr name value z.attrs }) (λ r. record r { attrs = with_attr name value r.attrs }) (own_rows p) y (λ z. refl) (λ z. refl) (own_resource p x valid (held_only _ free))
-part_edit_of_rows (Note n text) at p valid plain free y =
-    ap (λ rs. row_in rs y) (with_row-copies n (λ r. record r { audits = r.audits ++ Notification at text ∷ [] }) p.rows p.rw [] (λ r rw ro. refl))
-    ∙ changed_node n (λ r. record r { audits = r.audits ++ Notification at text ∷ [] }) (λ r. record r { audits = r.audits ++ Notification at text ∷ [] }) (own_rows p) y (record { id = λ r. refl; pool = λ r. refl; row = λ r. refl })
-    (own_node p n valid (known_only _ free))
-part_edit_of_rows (AddNode n id kind job_part status) at p valid plain free y = absurd (true≢false plain)
-part_edit_of_rows (AddResource n x) at p valid plain free y = absurd (true≢false plain)
-part_edit_of_rows (AddLink n link) at p valid plain free y = absurd (true≢false plain)
+part_edit_of_rows e at p valid plain free y = ap (λ rs. row_in rs y) (act_of_own_rows (act_of e) at p plain) ∙ row_touched (act_of e) at p valid plain free y

@@ -16,7 +16,7 @@ use Rattle.ticket_rows.proofs.Changes.{with_resource-none}
 use Rattle.ticket_rows.proofs.NodePlaces.{node_ids_distinct}
 use Rattle.ticket_rows.proofs.OneRows.{at_key-same, with_resource-same}
 use Rattle.ticket_tree.proofs.PlainPlaces.{places-with_row, places-with_resource}
-use Rattle.ticket_tree.proofs.PlainRows.{apart_node, apart_resource, changed_node, changed_resource}
+use Rattle.ticket_tree.proofs.PlainRows.{apart_node, apart_resource, node_touched, resource_touched}
 use Rattle.ticket_rows.specs.Edit.{with_row, with_resource}
 use Rattle.ticket_items.specs.Resource.{with_item}
 use Rattle.ticket_rows.specs.Homes.{homes, entry_of, resource_of}
@@ -38,13 +38,13 @@ append_of_places n audit rows = places-with_row n (λ r. record r { audits = r.a
 
 pub append_of_rows : AppendOfRows
 append_of_rows n audit rows valid known y =
-    changed_node n (λ r. record r { audits = r.audits ++ audit ∷ [] }) (λ r. record r { audits = r.audits ++ audit ∷ [] }) rows y (record { id = λ r. refl; pool = λ r. refl; row = λ r. refl }) (apart_node rows n valid known)
+    node_touched n (λ r. record r { audits = r.audits ++ audit ∷ [] }) (λ r. record r { audits = r.audits ++ audit ∷ [] }) rows y (record { id = λ r. refl; pool = λ r. refl; row = λ r. refl }) (apart_node rows n valid known)
 
 -- ---- a resource in the place of another
 
 pub replaced_resource_of_rows : ReplacedResourceOfRows
 replaced_resource_of_rows x rows valid known y =
-    ap (λ rs. row_in rs y) (with_resource-same x rows) ∙ changed_resource x.id (λ z. record x { id = z.id }) (λ _. resource_row x) rows y (λ z. refl) (λ z. refl) (apart_resource rows x.id valid known)
+    ap (λ rs. row_in rs y) (with_resource-same x rows) ∙ resource_touched x.id (λ z. record x { id = z.id }) (λ _. resource_row x) rows y (λ z. refl) (λ z. refl) (apart_resource rows x.id valid known)
 
 first_of_pair : (b : Bool) (h : List ℕ) (o : Option Resource) (e : Option (Resource × List ℕ))
     → option_map (λ p. p.0) (cond b (option_map (λ z. (z, h)) o) e)

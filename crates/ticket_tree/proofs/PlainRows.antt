@@ -1,5 +1,5 @@
--- Each edit of the rows, seen on the rows by id.
-use Rattle.std.proofs.Common.{◌≡◌, ℕ, suc, ◌||◌, Bool, true, false, not, cond, List, [], ◌∷◌, ◌++◌}
+-- Each act on the rows, seen on the rows by id.
+use Rattle.std.proofs.Common.{◌≡◌, ℕ, suc, ◌||◌, Bool, true, false, cond, List, [], ◌∷◌, ◌++◌}
 use Rattle.std.proofs.Common.{map, Option, Some, None, refl, sym, ap, ◌∙◌, append_assoc}
 use Rattle.std.proofs.lemmas.Bool.{true≢false, and_parts, or_parts, not-true}
 use Rattle.std.proofs.lemmas.List.{map-append}
@@ -19,24 +19,20 @@ use Rattle.ticket_rows.proofs.NewNode.{has_child, child_walk, walked_child}
 use Rattle.ticket_rows.proofs.NewResource.{add_resource}
 use Rattle.ticket_rows.proofs.NodePlaces.{node_ids_distinct}
 use Rattle.ticket_tree.proofs.OnPlaces.{has_resource-any}
-use Rattle.ticket_rows.proofs.Reasons.{node_among, resource_known, resource_new, child_new}
-use Rattle.ticket_items.specs.Attrs.{with_attr}
-use Rattle.ticket_rows.specs.Edit.{with_row, with_resource, bare_row, refusal_of, reaches}
+use Rattle.ticket_rows.proofs.Reasons.{node_among, target_known, resource_new, child_new}
+use Rattle.ticket_items.specs.Act.{Act, NodeChange, ResourceChange, NodeAddition, act_of}
+use Rattle.ticket_items.specs.Act.{NewNode, NewResource, NewLink}
+use Rattle.ticket_rows.specs.Edit.{with_row, with_resource, act_rows, bare_row, lookups}
+use Rattle.ticket_rows.specs.Edit.{changed_node, changed_resource}
+use Rattle.ticket_rows.specs.EditRefusal.{act_refusal}
 use Rattle.ticket_rows.specs.Homes.{has_resource}
 use Rattle.ticket_items.specs.Ids.{mem, are_distinct}
 use Rattle.ticket_tree.specs.Laws.{EditOfRows}
 use Rattle.ticket_rows.specs.Place.{Row, node_row, resource_row, row_in, rows_by_id, rows_by_id_of}
+use Rattle.ticket_tree.specs.PlainEdit.{act_rows_by_id, changed_row, changed_resource_row}
 use Rattle.ticket_tree.specs.PlainEdit.{with_line, with_row_changed}
-use Rattle.ticket_rows.specs.Ticket.{IsValid, has_node, ids, ids_of, node_ids, is_reserved, unless}
-use Rattle.ticket_rows.specs.Ticket.{first_of}
-use Rattle.ticket_items.specs.declared.audit.Audit.TheVariants.{Notification}
-use Rattle.ticket_items.specs.declared.edit.Edit.TheVariants.{SetStatus, SetAttr, SetResStatus}
-use Rattle.ticket_items.specs.declared.edit.Edit.TheVariants.{SetResAttr, Note, AddNode}
-use Rattle.ticket_items.specs.declared.edit.Edit.TheVariants.{AddResource, AddLink}
-use Rattle.ticket_items.specs.declared.link.Link.{Link}
+use Rattle.ticket_rows.specs.Ticket.{IsValid, has_node, ids, ids_of, node_ids}
 use Rattle.ticket_items.specs.declared.node_row.NodeRow.{NodeRow}
-use Rattle.ticket_items.specs.declared.refusal.Refusal.TheVariants.{UnknownNode, UnknownResource}
-use Rattle.ticket_items.specs.declared.refusal.Refusal.TheVariants.{ReservedStatus, UnresolvedLink}
 use Rattle.ticket_items.specs.declared.resource.Resource.{Resource}
 
 -- ---- one line more
@@ -124,20 +120,7 @@ touch_nothing true None = refl
 touch_nothing true (Some r) = refl
 touch_nothing false o = refl
 
--- ---- what is known where an edit isn't refused
-
-pub known_first : (a r : Bool)
-    → first_of (unless a UnknownNode ∷ unless (not r) ReservedStatus ∷ []) ≡ None → a ≡ true
-known_first true r e = refl
-known_first false r e = cc
-
-pub known_only : (a : Bool) → first_of (unless a UnknownNode ∷ None ∷ []) ≡ None → a ≡ true
-known_only true e = refl
-known_only false e = cc
-
-pub held_only : (a : Bool) → first_of (unless a UnknownResource ∷ None ∷ []) ≡ None → a ≡ true
-held_only true e = refl
-held_only false e = cc
+-- ---- nodes are no resources
 
 pub mem-resource_ids : (x : List ℕ) (rows : List NodeRow)
     → mem x (resource_ids rows) ≡ list_any (holds x) rows
@@ -153,53 +136,39 @@ pub apart_resource : (rows : List NodeRow) (x : List ℕ) → IsValid rows → h
     → mem x (node_ids rows) ≡ false
 apart_resource rows x valid known = resource_no_node x rows valid.distinct (mem-resource_ids x rows ∙ has_resource-any rows x ∙ known)
 
-known_of_three : (a b c : Bool)
-    → first_of
-    (first_of (unless a UnknownNode ∷ unless b UnknownResource ∷ []) ∷ unless c UnresolvedLink ∷ [])
-    ≡ None
-    → a ≡ true
-known_of_three true b c e = refl
-known_of_three false b c e = cc
-
-pub link_known : (rows : List NodeRow) (node : List ℕ) (link : Link)
-    → refusal_of (AddLink node link) rows ≡ None → has_node rows node ≡ true
-link_known rows node link none = known_of_three (has_node rows node) (has_resource rows link.rref) (reaches rows node link.rref) none
-
 -- ---- the law
 
-pub changed_node : (x : List ℕ) (f : NodeRow → NodeRow) (g : Row → Row) (rows : List NodeRow)
+pub node_touched : (x : List ℕ) (f : NodeRow → NodeRow) (g : Row → Row) (rows : List NodeRow)
     (y : List ℕ)
     → ChangesAs f g → mem x (resource_ids rows) ≡ false
     → row_in (with_row x f rows) y ≡ with_row_changed x g (row_in rows) y
-changed_node x f g rows y alike out = ap (λ ls. row_at ls y) (rows_by_id-with_row x f g rows alike out) ∙ row_at-touched x g (rows_by_id rows) y
+node_touched x f g rows y alike out = ap (λ ls. row_at ls y) (rows_by_id-with_row x f g rows alike out) ∙ row_at-touched x g (rows_by_id rows) y
 
-pub changed_resource : (x : List ℕ) (f : Resource → Resource) (g : Row → Row) (rows : List NodeRow)
+pub resource_touched : (x : List ℕ) (f : Resource → Resource) (g : Row → Row) (rows : List NodeRow)
     (y : List ℕ)
     → ((z : Resource) → (f z).id ≡ z.id)
     → ((z : Resource) → resource_row (f z) ≡ g (resource_row z)) → mem x (node_ids rows) ≡ false
     → row_in (with_resource x f rows) y ≡ with_row_changed x g (row_in rows) y
-changed_resource x f g rows y id row out = ap (λ ls. row_at ls y) (rows_by_id-with_resource x f g rows id row out) ∙ row_at-touched x g (rows_by_id rows) y
+resource_touched x f g rows y id row out = ap (λ ls. row_at ls y) (rows_by_id-with_resource x f g rows id row out) ∙ row_at-touched x g (rows_by_id rows) y
+
+pub act_of_rows : (a : Act) (at : ℕ) (rows : List NodeRow) → IsValid rows
+    → act_refusal a (lookups rows) ≡ None → (y : List ℕ)
+    → row_in (act_rows a at rows) y ≡ act_rows_by_id a at (row_in rows) y
+act_of_rows (NodeChange n change) at rows valid free y =
+    node_touched n (changed_node change at) (changed_row change at) rows y (record { id = λ r. refl; pool = λ r. refl; row = λ r. refl }) (apart_node rows n valid (target_known (NodeChange n change) (lookups rows) free))
+act_of_rows (ResourceChange x change) at rows valid free y =
+    resource_touched x (changed_resource change) (changed_resource_row change) rows y (λ z. refl) (λ z. refl) (apart_resource rows x valid (target_known (ResourceChange x change) (lookups rows) free))
+act_of_rows (NodeAddition n (NewNode new)) at rows valid free y =
+    let fit = child_new n new (lookups rows) free in
+    let bare = bare_row new.id new.kind new.job_part new.status in
+    let h = node_grows n new.id new.kind new.job_part new.status rows fit.0 in
+    ap (λ rs. row_in rs y) (walked_child n bare rows valid fit.0)
+    ∙ grown (rows_by_id rows) (rows_by_id (child_walk n bare rows)) (new.id, record { status = new.status; attrs = []; audits = [] }) h.0 h.1 y h.2 h.3 (ap (mem new.id) (keys_of_lines rows) ∙ fit.2)
+act_of_rows (NodeAddition n (NewResource x)) at rows valid free y =
+    let h = resource_grows n x rows (node_ids_distinct rows valid.distinct) (node_among rows n (target_known (NodeAddition n (NewResource x)) (lookups rows) free)) in
+    grown (rows_by_id rows) (rows_by_id (with_row n (add_resource x) rows)) (x.id, resource_row x) h.0 h.1 y h.2 h.3 (ap (mem x.id) (keys_of_lines rows) ∙ resource_new n x (lookups rows) free)
+act_of_rows (NodeAddition n (NewLink link)) at rows valid free y =
+    ap (λ ls. row_at ls y) (link_lines n rows (add_link link) (λ r. refl)) ∙ touch_nothing (bytes_eq n y) (row_in rows y)
 
 pub edit_of_rows : EditOfRows
-edit_of_rows (SetStatus n status) at rows valid free y =
-    changed_node n (λ r. record r { status = status }) (λ r. record r { status = status }) rows y (record { id = λ r. refl; pool = λ r. refl; row = λ r. refl }) (apart_node rows n valid (known_first (has_node rows n) (is_reserved status) free))
-edit_of_rows (SetAttr n name value) at rows valid free y =
-    changed_node n (λ r. record r { attrs = with_attr name value r.attrs }) (λ r. record r { attrs = with_attr name value r.attrs }) rows y (record { id = λ r. refl; pool = λ r. refl; row = λ r. refl })
-    (apart_node rows n valid (known_only (has_node rows n) free))
-edit_of_rows (SetResStatus x status) at rows valid free y =
-    changed_resource x (λ z. record z { status = status }) (λ r. record r { status = status }) rows y (λ z. refl) (λ z. refl) (apart_resource rows x valid (held_only (has_resource rows x) free))
-edit_of_rows (SetResAttr x name value) at rows valid free y =
-    changed_resource x (λ z. record z { attrs = with_attr name value z.attrs }) (λ r. record r { attrs = with_attr name value r.attrs }) rows y (λ z. refl) (λ z. refl) (apart_resource rows x valid (held_only (has_resource rows x) free))
-edit_of_rows (Note n text) at rows valid free y =
-    changed_node n (λ r. record r { audits = r.audits ++ Notification at text ∷ [] }) (λ r. record r { audits = r.audits ++ Notification at text ∷ [] }) rows y (record { id = λ r. refl; pool = λ r. refl; row = λ r. refl })
-    (apart_node rows n valid (known_only (has_node rows n) free))
-edit_of_rows (AddNode n id kind job_part status) at rows valid free y =
-    let fit = child_new rows n id status free in
-    let h = node_grows n id kind job_part status rows fit.0 in
-    ap (λ rs. row_in rs y) (walked_child n (bare_row id kind job_part status) rows valid fit.0)
-    ∙ grown (rows_by_id rows) (rows_by_id (child_walk n (bare_row id kind job_part status) rows)) (id, record { status = status; attrs = []; audits = [] }) h.0 h.1 y h.2 h.3 (ap (mem id) (keys_of_lines rows) ∙ fit.2)
-edit_of_rows (AddResource n x) at rows valid free y =
-    let h = resource_grows n x rows (node_ids_distinct rows valid.distinct) (node_among rows n (resource_known rows n x free)) in
-    grown (rows_by_id rows) (rows_by_id (with_row n (add_resource x) rows)) (x.id, resource_row x) h.0 h.1 y h.2 h.3 (ap (mem x.id) (keys_of_lines rows) ∙ resource_new rows n x free)
-edit_of_rows (AddLink n link) at rows valid free y =
-    ap (λ ls. row_at ls y) (link_lines n rows (add_link link) (λ r. refl)) ∙ touch_nothing (bytes_eq n y) (row_in rows y)
+edit_of_rows e at rows valid free y = act_of_rows (act_of e) at rows valid free y

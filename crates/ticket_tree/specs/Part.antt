@@ -6,8 +6,9 @@ use Rattle.std.specs.List.{list_all, list_any}
 use Rattle.std.specs.Str.{bytes_eq}
 use Rattle.ticket_items.specs.Ids.{mem, are_distinct}
 use Rattle.ticket_items.specs.Resource.{resource_ids}
-use Rattle.ticket_rows.specs.Edit.{edited_rows}
-use Rattle.ticket_rows.specs.PartEdit.{edited_copies, part_refusal}
+use Rattle.ticket_items.specs.Act.{Act, act_of}
+use Rattle.ticket_rows.specs.Edit.{act_rows}
+use Rattle.ticket_rows.specs.PartEdit.{act_copies, part_refusal}
 use Rattle.ticket_rows.specs.Ticket.{ids, max_depth}
 use Rattle.ticket_items.specs.declared.ancestor.Ancestor.{Ancestor}
 use Rattle.ticket_items.specs.declared.edit.Edit.{Edit}
@@ -43,9 +44,12 @@ part_copy job_id spawn_id ancestors rows rw ro =
 abbrev pub refusal_of_part : Edit → PartCopy → Option Refusal
 refusal_of_part e p = part_refusal e p.rows p.rw
 
--- the part after an edit at a time that isn't refused
+-- the part after an act, and after an edit, at a time that isn't refused
+abbrev pub act_part : Act → ℕ → PartCopy → PartCopy
+act_part a at p = record p { rows = act_rows a at p.rows; rw = act_copies a p.rw }
+
 abbrev pub edited_part : Edit → ℕ → PartCopy → PartCopy
-edited_part e at p = record p { rows = edited_rows e at p.rows; rw = edited_copies e p.rw }
+edited_part e at p = act_part (act_of e) at p
 
 -- ---- what makes a part sound
 

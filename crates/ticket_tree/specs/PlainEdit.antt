@@ -3,19 +3,16 @@ use Rattle.std.specs.Prelude.{ℕ, ◌++◌, Bool, false, List, [], ◌∷◌, l
 use Rattle.std.specs.Prelude.{if◌then◌else◌, Option, Some, is_some}
 use Rattle.std.specs.Option.{option_map, option_map_or}
 use Rattle.std.specs.Str.{bytes_eq}
-use Rattle.ticket_items.specs.Attrs.{with_attr}
-use Rattle.ticket_items.specs.Edit.{target}
+use Rattle.ticket_items.specs.Act.{Act, NodeChange, ResourceChange, NodeAddition, act_of, act_target}
+use Rattle.ticket_items.specs.Act.{Change, status_after, attrs_after, audits_after}
+use Rattle.ticket_items.specs.Act.{NewNode, NewResource, NewLink}
 use Rattle.ticket_rows.specs.Edit.{behind_last}
 use Rattle.ticket_rows.specs.EditRefusal.{Lookups, edit_refusal}
 use Rattle.ticket_rows.specs.Place.{Place, Thing, node, resource, Row, place_at, nodes_in}
 use Rattle.ticket_rows.specs.Place.{resources_in, below, is_below, home, home_at, resource_place}
 use Rattle.ticket_rows.specs.Place.{resource_row}
 use Rattle.ticket_rows.specs.Ticket.{max_depth}
-use Rattle.ticket_items.specs.declared.audit.Audit.TheVariants.{Notification}
 use Rattle.ticket_items.specs.declared.edit.Edit.{Edit}
-use Rattle.ticket_items.specs.declared.edit.Edit.TheVariants.{SetStatus, SetAttr, SetResStatus}
-use Rattle.ticket_items.specs.declared.edit.Edit.TheVariants.{SetResAttr, Note, AddNode}
-use Rattle.ticket_items.specs.declared.edit.Edit.TheVariants.{AddResource, AddLink}
 use Rattle.ticket_items.specs.declared.link.Link.{Link}
 use Rattle.ticket_items.specs.declared.refusal.Refusal.{Refusal}
 
@@ -65,26 +62,45 @@ abbrev pub with_link : Link → Thing → Thing
 with_link link (node kind job_part links) = node kind job_part (links ++ link ∷ [])
 with_link link (resource name class) = resource name class
 
-abbrev pub plain_places : Edit → List Place → List Place
-plain_places (AddNode n id kind job_part status) tree =
+-- the places after an act
+abbrev pub act_places : Act → List Place → List Place
+act_places (NodeAddition n (NewNode new)) tree =
     behind_last (below n)
-    (record { id = id; path = id ∷ path_at tree n; thing = node kind job_part [] }) tree
-plain_places (AddResource n x) tree = behind_last (is_at n) (resource_place (path_at tree n) x) tree
-plain_places (AddLink n link) tree =
+    (record { id = new.id; path = new.id ∷ path_at tree n; thing = node new.kind new.job_part [] })
+    tree
+act_places (NodeAddition n (NewResource x)) tree =
+    behind_last (is_at n) (resource_place (path_at tree n) x) tree
+act_places (NodeAddition n (NewLink link)) tree =
     map
     (λ (p : Place). if bytes_eq p.id n then record p { thing = with_link link p.thing } else p) tree
-plain_places e tree = tree
+act_places a tree = tree
+
+abbrev pub plain_places : Edit → List Place → List Place
+plain_places e tree = act_places (act_of e) tree
 
 -- ---- what it makes of the rows by id
 
--- what an edit at a time makes of the row that it changes
+-- a row after a change of it at a time. A resource has no audits
+abbrev pub changed_row : Change → ℕ → Row → Row
+changed_row change at r =
+    record {
+      status = status_after change r.status;
+      attrs = attrs_after change r.attrs;
+      audits = audits_after change at r.audits;
+    }
+
+abbrev pub changed_resource_row : Change → Row → Row
+changed_resource_row change r =
+    record r { status = status_after change r.status; attrs = attrs_after change r.attrs }
+
+-- what an act at a time makes of the row that it changes
+abbrev pub act_row : Act → ℕ → Row → Row
+act_row (NodeChange n change) at r = changed_row change at r
+act_row (ResourceChange x change) at r = changed_resource_row change r
+act_row (NodeAddition n addition) at r = r
+
 abbrev pub plain_changed : Edit → ℕ → Row → Row
-plain_changed (SetStatus n status) at r = record r { status = status }
-plain_changed (SetAttr n name value) at r = record r { attrs = with_attr name value r.attrs }
-plain_changed (SetResStatus x status) at r = record r { status = status }
-plain_changed (SetResAttr x name value) at r = record r { attrs = with_attr name value r.attrs }
-plain_changed (Note n text) at r = record r { audits = r.audits ++ Notification at text ∷ [] }
-plain_changed e at r = r
+plain_changed e at r = act_row (act_of e) at r
 
 -- the rows by id, with f of the row of one id
 abbrev pub with_row_changed : List ℕ → (Row → Row) → (List ℕ → Option Row) → List ℕ → Option Row
@@ -98,8 +114,12 @@ with_line x row rows y = if bytes_eq x y then Some row else rows y
 abbrev pub or_row : Option Row → Option Row → Option Row
 or_row known other = option_map_or Some known other
 
+-- the rows by id after an act at a time
+abbrev pub act_rows_by_id : Act → ℕ → (List ℕ → Option Row) → List ℕ → Option Row
+act_rows_by_id (NodeAddition n (NewNode new)) at rows =
+    with_line new.id (record { status = new.status; attrs = []; audits = [] }) rows
+act_rows_by_id (NodeAddition n (NewResource x)) at rows = with_line x.id (resource_row x) rows
+act_rows_by_id a at rows = with_row_changed (act_target a) (act_row a at) rows
+
 abbrev pub plain_rows : Edit → ℕ → (List ℕ → Option Row) → List ℕ → Option Row
-plain_rows (AddNode n id kind job_part status) at rows =
-    with_line id (record { status = status; attrs = []; audits = [] }) rows
-plain_rows (AddResource n x) at rows = with_line x.id (resource_row x) rows
-plain_rows e at rows = with_row_changed (target e) (plain_changed e at) rows
+plain_rows e at rows = act_rows_by_id (act_of e) at rows

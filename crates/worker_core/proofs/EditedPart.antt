@@ -5,21 +5,21 @@ use Rattle.std.proofs.lemmas.Slice.Eq.{bytes_eq-Decides}
 use Rattle.std.specs.List.{find, list_all, list_any}
 use Rattle.std.specs.Option.{option_map_or}
 use Rattle.std.specs.Str.{bytes_eq}
-use Rattle.ticket_items.specs.Attrs.{with_attr}
+use Rattle.ticket_items.specs.Act.{Act, NodeChange, ResourceChange, NodeAddition, NewStatus, act_of, is_act_structural}
 use Rattle.ticket_items.specs.Resource.{resource_ids, with_item}
-use Rattle.ticket_items.specs.declared.audit.Audit.TheVariants.{Notification}
 use Rattle.ticket_items.specs.declared.edit.Edit.{Edit}
-use Rattle.ticket_items.specs.declared.edit.Edit.TheVariants.{SetStatus, SetAttr, SetResStatus, SetResAttr, Note, AddNode, AddResource, AddLink}
 use Rattle.ticket_items.specs.declared.node_row.NodeRow.{NodeRow}
 use Rattle.ticket_items.specs.declared.refusal.Refusal.TheVariants.{UnknownNode, ReservedStatus}
 use Rattle.ticket_items.specs.declared.resource.Resource.{Resource}
-use Rattle.ticket_rows.proofs.Changes.{KeepsTicket, keeps-at_id, keeps-SetStatus, keeps-SetAttr, keeps-Note, keeps-resources}
-use Rattle.ticket_rows.proofs.Reasons.{status_free}
+use Rattle.ticket_rows.proofs.Changes.{KeepsTicket, keeps-at_id, keeps-changed_node, keeps-resources}
+use Rattle.ticket_rows.proofs.Reasons.{later_free}
 use Rattle.ticket_rows.specs.Copies.{with_copies}
 use Rattle.ticket_items.specs.Edit.{is_structural}
-use Rattle.ticket_rows.specs.Edit.{edited_rows}
+use Rattle.ticket_rows.specs.Edit.{act_rows, changed_node, changed_resource}
+use Rattle.ticket_rows.specs.EditRefusal.{act_refusal}
+use Rattle.ticket_rows.specs.PartEdit.{part_lookups}
 use Rattle.ticket_rows.specs.Ticket.{IsValid, first_of, has_node, ids, ids_of, is_reserved, max_depth, unless}
-use Rattle.ticket_tree.specs.Part.{PartCopy, are_ancestors_new, are_linked, are_shallow_below, edited_part, has_ancestors, is_linked, is_sound, refusal_of_part}
+use Rattle.ticket_tree.specs.Part.{PartCopy, act_part, are_ancestors_new, are_linked, are_shallow_below, edited_part, has_ancestors, is_linked, is_sound, refusal_of_part}
 use Rattle.worker_core.specs.Orders.{end_edit}
 use Rattle.worker_core.specs.Worker.{end_word, root_status}
 use Rattle.world_items.specs.declared.end.End.{End}
@@ -76,21 +76,15 @@ copies-kept x f (y ∷ pool) keeps = ap (λ i. i ∷ resource_ids (with_item x f
     same true = keeps y
     same false = refl
 
+sound_after : (a : Act) (at : ℕ) (p : PartCopy) → is_act_structural a ≡ false → act_refusal a (part_lookups p.rows p.rw) ≡ None → is_sound (act_part a at p) ≡ is_sound p
+sound_after (NodeChange n change) at p plain free =
+    sound-kept _ p p.rw (keeps-at_id n (changed_node change at) (keeps-changed_node change at (later_free (NodeChange n change) (part_lookups p.rows p.rw) free))) refl
+sound_after (ResourceChange x change) at p plain free =
+    sound-kept _ p (with_item x (changed_resource change) p.rw) (keeps-resources x (changed_resource change) (λ y. refl)) (copies-kept x (changed_resource change) p.rw (λ y. refl))
+sound_after (NodeAddition n addition) at p plain free = absurd (true≢false plain)
+
 pub edited_sound : (e : Edit) (at : ℕ) (p : PartCopy) → is_structural e ≡ false → refusal_of_part e p ≡ None → is_sound (edited_part e at p) ≡ is_sound p
-edited_sound (SetStatus n status) at p plain free =
-    sound-kept _ p p.rw (keeps-at_id n (λ r. record r { status = status }) (keeps-SetStatus status (status_free p.rows n status free))) refl
-edited_sound (SetAttr n name value) at p plain free =
-    sound-kept _ p p.rw (keeps-at_id n (λ r. record r { attrs = with_attr name value r.attrs }) (keeps-SetAttr name value)) refl
-edited_sound (SetResStatus x status) at p plain free =
-    sound-kept _ p (with_item x (λ y. record y { status = status }) p.rw) (keeps-resources x (λ y. record y { status = status }) (λ y. refl)) (copies-kept x (λ y. record y { status = status }) p.rw (λ y. refl))
-edited_sound (SetResAttr x name value) at p plain free =
-    sound-kept _ p (with_item x (λ y. record y { attrs = with_attr name value y.attrs }) p.rw) (keeps-resources x (λ y. record y { attrs = with_attr name value y.attrs }) (λ y. refl))
-    (copies-kept x (λ y. record y { attrs = with_attr name value y.attrs }) p.rw (λ y. refl))
-edited_sound (Note n text) at p plain free =
-    sound-kept _ p p.rw (keeps-at_id n (λ r. record r { audits = r.audits ++ Notification at text ∷ [] }) (keeps-Note at text)) refl
-edited_sound (AddNode n id kind job_part status) at p plain free = absurd (true≢false plain)
-edited_sound (AddResource n x) at p plain free = absurd (true≢false plain)
-edited_sound (AddLink n link) at p plain free = absurd (true≢false plain)
+edited_sound e at p plain free = sound_after (act_of e) at p plain free
 
 -- ---- the end
 
@@ -112,7 +106,7 @@ ending_free p how valid =
     ∙ ap (λ b. first_of (None ∷ unless (not b) ReservedStatus ∷ [])) (word_free how)
 
 first_ended : (rows : List NodeRow) (rw ro : List Resource) (word : List ℕ) (at : ℕ) → IsValid (with_copies rows rw ro)
-    → option_map_or (λ r. r.status) (slice_get (edited_rows (SetStatus (option_map_or (λ r. r.id) (slice_get rows 0) []) word) at rows) 0) [] ≡ word
+    → option_map_or (λ r. r.status) (slice_get (act_rows (NodeChange (option_map_or (λ r. r.id) (slice_get rows 0) []) (NewStatus word)) at rows) 0) [] ≡ word
 first_ended [] rw ro word at valid = absurd (true≢false (sym valid.tree))
 first_ended (r ∷ rows) rw ro word at valid = ap (λ b. (cond b (record r { status = word }) r).status) (itself r.id)
 

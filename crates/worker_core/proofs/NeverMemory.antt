@@ -6,6 +6,7 @@ use Rattle.ticket_items.specs.declared.edit.Edit.{Edit}
 use Rattle.ticket_items.specs.declared.refusal.Refusal.{Refusal}
 use Rattle.ticket_items.specs.declared.refusal.Refusal.TheVariants.{Memory}
 use Rattle.ticket_items.specs.declared.refusal.Refusal.TheVariants as refusals
+use Rattle.ticket_items.specs.Act.{act_of}
 use Rattle.ticket_items.specs.Edit.{is_structural}
 use Rattle.ticket_rows.specs.EditRefusal.{later_refusal}
 use Rattle.ticket_rows.specs.PartEdit.{part_lookups}
@@ -30,7 +31,7 @@ works true true true None isnt = tt
 edits : (edit : Edit) (o : Option PartCopy) → IsOther (option_map_or (worker_orders.part_edit_refusal edit) o (Some refusals.NotOpen))
 edits edit None = other refusals.NotOpen refl
 edits edit (Some p) =
-    works (not (is_structural edit)) (worker_orders.is_here edit p || worker_orders.is_to_read edit p) (not (worker_orders.is_to_read edit p)) (later_refusal edit (part_lookups p.rows p.rw)) (later edit (part_lookups p.rows p.rw))
+    works (not (is_structural edit)) (worker_orders.is_here edit p || worker_orders.is_to_read edit p) (not (worker_orders.is_to_read edit p)) (later_refusal edit (part_lookups p.rows p.rw)) (later (act_of edit) (part_lookups p.rows p.rw))
 
 resends : (a b : Bool) → IsOther (first_of (unless a refusals.NotDone ∷ unless b refusals.Acknowledged ∷ []))
 resends false b = other refusals.NotDone refl

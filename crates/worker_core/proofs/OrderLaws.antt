@@ -9,13 +9,12 @@ use Rattle.ticket_items.proofs.Places.{is_some-find, same_found}
 use Rattle.ticket_items.specs.Ids.{mem}
 use Rattle.ticket_items.specs.Resource.{resource_ids}
 use Rattle.ticket_items.specs.declared.edit.Edit.{Edit}
-use Rattle.ticket_items.specs.declared.edit.Edit.TheVariants.{SetStatus, SetAttr, SetResStatus, SetResAttr, Note, AddNode, AddResource, AddLink}
 use Rattle.ticket_items.specs.declared.node_row.NodeRow.{NodeRow}
 use Rattle.ticket_items.specs.declared.refusal.Refusal.{Refusal}
 use Rattle.ticket_items.specs.declared.refusal.Refusal.TheVariants.{NotOpen}
 use Rattle.ticket_rows.specs.Copies.{with_copies}
 use Rattle.ticket_rows.proofs.AtHome.{holds, mem-ids}
-use Rattle.ticket_items.specs.Edit.{is_structural, target}
+use Rattle.ticket_items.specs.Edit.{is_of_node, is_structural, target}
 use Rattle.ticket_rows.specs.Homes.{has_resource}
 use Rattle.ticket_rows.specs.Place.{Row}
 use Rattle.ticket_rows.specs.Ticket.{IsValid, has_node, ids, unless}
@@ -93,16 +92,13 @@ either_stands true b c e go = or_left b c (go refl)
 either_stands false true c e go = refl
 either_stands false false c e go = e
 
--- what an edit changes that is here, the part has
-here_has : (e : Edit) (p : PartCopy) → is_structural e ≡ false → is_here e p ≡ true → has p (target e) ≡ true
-here_has (SetStatus n status) p plain here = or_left _ _ (node_stands p.rows n here)
-here_has (SetAttr n name value) p plain here = or_left _ _ (node_stands p.rows n here)
-here_has (SetResStatus x status) p plain here = either_stands (has_resource p.rows x) _ (mem x (resource_ids p.rw)) here (resource_stands p.rows x)
-here_has (SetResAttr x name value) p plain here = either_stands (has_resource p.rows x) _ (mem x (resource_ids p.rw)) here (resource_stands p.rows x)
-here_has (Note n text) p plain here = or_left _ _ (node_stands p.rows n here)
-here_has (AddNode n id kind job_part status) p plain here = absurd (true≢false plain)
-here_has (AddResource n x) p plain here = absurd (true≢false plain)
-here_has (AddLink n link) p plain here = absurd (true≢false plain)
+-- what is here as an edit reads its target, the part has
+here_by : (of_node : Bool) (p : PartCopy) (x : List ℕ) → cond of_node (has_node p.rows x) (has_resource p.rows x || mem x (resource_ids p.rw)) ≡ true → has p x ≡ true
+here_by true p x here = or_left _ _ (node_stands p.rows x here)
+here_by false p x here = either_stands (has_resource p.rows x) _ (mem x (resource_ids p.rw)) here (resource_stands p.rows x)
+
+here_has : (e : Edit) (p : PartCopy) → is_here e p ≡ true → has p (target e) ≡ true
+here_has e p here = here_by (is_of_node e) p (target e) here
 
 -- what an open entry has may be changed
 pub may_change_here : (entries : List Entry) (s : ℕ) (x : List ℕ) (e : Entry) (p : PartCopy) → entry_of entries s ≡ Some e → open_part e ≡ Some p → has p x ≡ true → may_change entries s x ≡ true
@@ -114,7 +110,7 @@ edit_is_of_held entries s e none =
     let on = ordered_on (order.Edit s e) entries none in
     let entry : Entry = on.0 in
     let free = edit_free e entry on.2 in
-    may_change_here entries s (target e) entry free.part on.1 free.opened (here_has e free.part free.plain free.here)
+    may_change_here entries s (target e) entry free.part on.1 free.opened (here_has e free.part free.here)
 
 -- ---- what an order changes
 
@@ -169,7 +165,7 @@ finish_next how at entries s x kept none found =
     let own = kept_part x p of.1 kept in
     let e = end_edit p how in
     let free = ending_free p how own.valid in
-    let there : has p (root_id p) ≡ true = here_has e p refl (first_known p.rows p.rw p.ro own.valid) in
+    let there : has p (root_id p) ≡ true = here_has e p (first_known p.rows p.rw p.ro own.valid) in
     record {
       part = next_part (ended_part how at) entries s x p of.1 (edited_next e at entries s p own.valid refl free (may_change_here entries s (root_id p) x p found opened.1 there));
       phase = inr (open_stage x.phase of.0, refl);

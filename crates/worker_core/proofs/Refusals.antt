@@ -4,13 +4,13 @@ use Rattle.std.proofs.lemmas.Bool.{true≢false}
 use Rattle.std.specs.Option.{option_map_or}
 use Rattle.std.specs.Str.{bytes_eq}
 use Rattle.ticket_items.specs.declared.edit.Edit.{Edit}
-use Rattle.ticket_items.specs.declared.edit.Edit.TheVariants.{SetStatus, SetAttr, SetResStatus, SetResAttr, Note, AddNode, AddResource, AddLink}
 use Rattle.ticket_items.specs.declared.refusal.Refusal.{Refusal}
-use Rattle.ticket_items.specs.declared.refusal.Refusal.TheVariants.{UnknownNode, UnknownResource, ReservedStatus, UnknownEntry, NotOpen, ReadOnly, NotInPart, NotForWorkers, NotDone, Acknowledged, WrongMessage, WrongSender}
+use Rattle.ticket_items.specs.declared.refusal.Refusal.TheVariants.{UnknownNode, UnknownResource, UnknownEntry, NotOpen, ReadOnly, NotInPart, NotForWorkers, NotDone, Acknowledged, WrongMessage, WrongSender}
+use Rattle.ticket_items.specs.Act.{Act, NodeChange, ResourceChange, NodeAddition, act_of, act_target, is_act_of_node, is_act_structural}
 use Rattle.ticket_items.specs.Edit.{is_structural}
-use Rattle.ticket_rows.specs.EditRefusal.{later_refusal}
+use Rattle.ticket_rows.specs.EditRefusal.{Lookups, act_later, act_refusal, change_refusal, later_refusal}
 use Rattle.ticket_rows.specs.PartEdit.{part_lookups}
-use Rattle.ticket_rows.specs.Ticket.{first_of, is_reserved, unless}
+use Rattle.ticket_rows.specs.Ticket.{first_of, unless}
 use Rattle.ticket_tree.specs.Part.{PartCopy, refusal_of_part}
 use Rattle.controller.specs.Step.{unless_refused}
 use Rattle.controller.specs.declared.message.Message.{Message}
@@ -92,24 +92,18 @@ four_none false false true l e = cc
 four_none false false false l e = cc
 four_none true c d l e = cc
 
--- an edit of what is here isn't refused by the part, but for its value
-part_free : (e : Edit) (p : PartCopy) → is_structural e ≡ false → is_here e p ≡ true → later_refusal e (part_lookups p.rows p.rw) ≡ None → refusal_of_part e p ≡ None
-part_free (SetStatus n status) p plain here later =
-    ap (λ b. first_of (unless b UnknownNode ∷ unless (not (is_reserved status)) ReservedStatus ∷ [])) here ∙ ap (λ o. first_of (None ∷ o ∷ [])) later
-part_free (SetAttr n name value) p plain here later = ap (λ b. first_of (unless b UnknownNode ∷ None ∷ [])) here
-part_free (SetResStatus x status) p plain here later = ap (λ b. first_of (unless b UnknownResource ∷ None ∷ [])) here
-part_free (SetResAttr x name value) p plain here later = ap (λ b. first_of (unless b UnknownResource ∷ None ∷ [])) here
-part_free (Note n text) p plain here later = ap (λ b. first_of (unless b UnknownNode ∷ None ∷ [])) here
-part_free (AddNode n id kind job_part status) p plain here later = absurd (true≢false plain)
-part_free (AddResource n x) p plain here later = absurd (true≢false plain)
-part_free (AddLink n link) p plain here later = absurd (true≢false plain)
+-- an act on what is here isn't refused, but for its value
+plain_free : (a : Act) (at : Lookups) → is_act_structural a ≡ false → cond (is_act_of_node a) (at.has_node (act_target a)) (at.has_resource (act_target a)) ≡ true → act_later a at ≡ None → act_refusal a at ≡ None
+plain_free (NodeChange n change) at plain here later = ap (λ b. first_of (unless b UnknownNode ∷ change_refusal change ∷ [])) here ∙ ap (λ o. first_of (None ∷ o ∷ [])) later
+plain_free (ResourceChange x change) at plain here later = ap (λ b. first_of (unless b UnknownResource ∷ None ∷ [])) here
+plain_free (NodeAddition n addition) at plain here later = absurd (true≢false plain)
 
 pub edit_free : (e : Edit) (entry : Entry) → edit_refusal e entry ≡ None → IsFree e entry
 edit_free e entry none =
     let on = edited_open (part_edit_refusal e) (open_part entry) none in
     let p : PartCopy = on.0 in
     let parts = four_none (is_structural e) (is_here e p) (is_to_read e p) (later_refusal e (part_lookups p.rows p.rw)) on.2 in
-    record { part = p; opened = on.1; plain = parts.0; here = parts.1; free = part_free e p parts.0 parts.1 parts.2 }
+    record { part = p; opened = on.1; plain = parts.0; here = parts.1; free = plain_free (act_of e) (part_lookups p.rows p.rw) parts.0 parts.1 parts.2 }
 
 -- ---- other orders
 

@@ -6,7 +6,7 @@ use Rattle.std.specs.Option.{option_map, option_map_or}
 use Rattle.std.specs.Str.{bytes_eq}
 use Rattle.ticket_items.specs.Ids.{mem}
 use Rattle.ticket_items.specs.declared.edit.Edit.{Edit}
-use Rattle.ticket_items.specs.declared.edit.Edit.TheVariants.{SetStatus, SetAttr, SetResStatus, SetResAttr, Note, AddNode, AddResource, AddLink}
+use Rattle.ticket_items.specs.Act.{Act, NodeAddition, NewNode, NewResource, act_added_id, act_of, act_target}
 use Rattle.ticket_items.specs.declared.refusal.Refusal.{Refusal}
 use Rattle.ticket_rows.proofs.Alike.{later_alike, unknown_alike}
 use Rattle.ticket_items.specs.Edit.{added_id, target}
@@ -20,10 +20,10 @@ use Rattle.ticket_tree.proofs.OnPlaces.{stands_somewhere}
 use Rattle.ticket_tree.proofs.PlainEdits.{edit_of_places}
 use Rattle.ticket_tree.proofs.PlainRefusal.{lookups_alike}
 use Rattle.ticket_tree.proofs.PlainRows.{edit_of_rows}
-use Rattle.ticket_tree.specs.PlainEdit.{plain_changed, plain_lookups, plain_rows, with_line, with_row_changed}
+use Rattle.ticket_tree.specs.PlainEdit.{act_row, act_rows_by_id, plain_lookups, plain_rows, with_line, with_row_changed}
 use Rattle.controller.specs.declared.message.Message.{Message}
 use Rattle.spawn.proofs.EditKeeps.{edit_keeps_claims}
-use Rattle.spawn.proofs.HoldingsEdited.{IsOld, holder_stays, new_nowhere}
+use Rattle.spawn.proofs.HoldingsEdited.{IsOld, IsOutside, holder_stays, new_nowhere}
 use Rattle.spawn.proofs.Lawful.{held_is_claimed, placed}
 use Rattle.spawn.proofs.Outside.{some_of}
 use Rattle.plain_shop.specs.Claim.{is_claimed}
@@ -68,8 +68,8 @@ edit_refused e c valid =
     let rows = c.master.ticket.rows in
     let alike = lookups_alike rows valid in
     let held = orders.not_held c.master (target e) in
-    ap (λ o. first_of (o ∷ held ∷ later_refusal e (lookups rows) ∷ [])) (sym (unknown_alike e (plain_lookups (places rows)) (lookups rows) alike))
-    ∙ ap (λ o. first_of (unknown_refusal e (plain_lookups (places rows)) ∷ held ∷ o ∷ [])) (sym (later_alike e (plain_lookups (places rows)) (lookups rows) alike))
+    ap (λ o. first_of (o ∷ held ∷ later_refusal e (lookups rows) ∷ [])) (sym (unknown_alike (act_of e) (plain_lookups (places rows)) (lookups rows) alike))
+    ∙ ap (λ o. first_of (unknown_refusal e (plain_lookups (places rows)) ∷ held ∷ o ∷ [])) (sym (later_alike (act_of e) (plain_lookups (places rows)) (lookups rows) alike))
 
 -- ---- rows, point by point
 
@@ -88,41 +88,26 @@ other_line y row rows x other = ap (λ b. cond b (Some row) (rows x)) other
 own_line : (y : List ℕ) (row : Row) (rows : Rows) (x : List ℕ) → bytes_eq y x ≡ true → with_line y row rows x ≡ Some row
 own_line y row rows x own = ap (λ b. cond b (Some row) (rows x)) own
 
--- an edit makes the same of what is the same
-rows_as : (e : Edit) (at : ℕ) (rows others : Rows) (x : List ℕ) → rows x ≡ others x → plain_rows e at rows x ≡ plain_rows e at others x
-rows_as (SetStatus n status) at rows others x same = touch_as n (plain_changed (SetStatus n status) at) rows others x same
-rows_as (SetAttr n name value) at rows others x same = touch_as n (plain_changed (SetAttr n name value) at) rows others x same
-rows_as (SetResStatus y status) at rows others x same = touch_as y (plain_changed (SetResStatus y status) at) rows others x same
-rows_as (SetResAttr y name value) at rows others x same = touch_as y (plain_changed (SetResAttr y name value) at) rows others x same
-rows_as (Note n text) at rows others x same = touch_as n (plain_changed (Note n text) at) rows others x same
-rows_as (AddNode n id kind job_part status) at rows others x same = line_as id _ rows others x same
-rows_as (AddResource n y) at rows others x same = line_as y.id _ rows others x same
-rows_as (AddLink n link) at rows others x same = touch_as n (plain_changed (AddLink n link) at) rows others x same
+-- an act makes the same of what is the same
+rows_as : (a : Act) (at : ℕ) (rows others : Rows) (x : List ℕ) → rows x ≡ others x → act_rows_by_id a at rows x ≡ act_rows_by_id a at others x
+rows_as (NodeAddition n (NewNode new)) at rows others x same = line_as new.id _ rows others x same
+rows_as (NodeAddition n (NewResource y)) at rows others x same = line_as y.id _ rows others x same
+rows_as a at rows others x same = touch_as (act_target a) (act_row a at) rows others x same
 
 -- what is neither the target nor new stays
-rows_stay : (e : Edit) (at : ℕ) (rows : Rows) (x : List ℕ) → bytes_eq (target e) x ≡ false → IsOld e x → plain_rows e at rows x ≡ rows x
-rows_stay (SetStatus n status) at rows x other old = untouched n (plain_changed (SetStatus n status) at) rows x other
-rows_stay (SetAttr n name value) at rows x other old = untouched n (plain_changed (SetAttr n name value) at) rows x other
-rows_stay (SetResStatus y status) at rows x other old = untouched y (plain_changed (SetResStatus y status) at) rows x other
-rows_stay (SetResAttr y name value) at rows x other old = untouched y (plain_changed (SetResAttr y name value) at) rows x other
-rows_stay (Note n text) at rows x other old = untouched n (plain_changed (Note n text) at) rows x other
-rows_stay (AddNode n id kind job_part status) at rows x other old = other_line id _ rows x (old id refl)
-rows_stay (AddResource n y) at rows x other old = other_line y.id _ rows x (old y.id refl)
-rows_stay (AddLink n link) at rows x other old = untouched n (plain_changed (AddLink n link) at) rows x other
+rows_stay : (a : Act) (at : ℕ) (rows : Rows) (x : List ℕ) → bytes_eq (act_target a) x ≡ false → IsOutside a x → act_rows_by_id a at rows x ≡ rows x
+rows_stay (NodeAddition n (NewNode new)) at rows x other old = other_line new.id _ rows x (old new.id refl)
+rows_stay (NodeAddition n (NewResource y)) at rows x other old = other_line y.id _ rows x (old y.id refl)
+rows_stay a at rows x other old = untouched (act_target a) (act_row a at) rows x other
 
 -- what is new has its first row
-abbrev AreNew : Edit → ℕ → List ℕ → Type 0
-AreNew e at x = (row : Row) × ((rows : Rows) → plain_rows e at rows x ≡ Some row)
+abbrev AreNew : Act → ℕ → List ℕ → Type 0
+AreNew a at x = (row : Row) × ((rows : Rows) → act_rows_by_id a at rows x ≡ Some row)
 
-rows_new : (e : Edit) (at : ℕ) (i x : List ℕ) → added_id e ≡ Some i → bytes_eq i x ≡ true → AreNew e at x
-rows_new (SetStatus n status) at i x added own = cc
-rows_new (SetAttr n name value) at i x added own = cc
-rows_new (SetResStatus y status) at i x added own = cc
-rows_new (SetResAttr y name value) at i x added own = cc
-rows_new (Note n text) at i x added own = cc
-rows_new (AddNode n id kind job_part status) at i x added own = (_, λ rows. own_line id _ rows x (ap (λ o. option_map_or (λ j. bytes_eq j x) o true) added ∙ own))
-rows_new (AddResource n y) at i x added own = (_, λ rows. own_line y.id _ rows x (ap (λ o. option_map_or (λ j. bytes_eq j x) o true) added ∙ own))
-rows_new (AddLink n link) at i x added own = cc
+rows_new : (a : Act) (at : ℕ) (i x : List ℕ) → act_added_id a ≡ Some i → bytes_eq i x ≡ true → AreNew a at x
+rows_new (NodeAddition n (NewNode new)) at i x added own = (_, λ rows. own_line new.id _ rows x (ap (λ o. option_map_or (λ j. bytes_eq j x) o true) added ∙ own))
+rows_new (NodeAddition n (NewResource y)) at i x added own = (_, λ rows. own_line y.id _ rows x (ap (λ o. option_map_or (λ j. bytes_eq j x) o true) added ∙ own))
+rows_new a at i x added own = cc
 
 -- ---- holders
 
@@ -147,7 +132,7 @@ new_is_masters : (e : Edit) (at : ℕ) (m : MasterState) (i x : List ℕ) → Is
 new_is_masters e at m i x valid apart free added own =
     let rows = m.ticket.rows in
     let later = edited_rows e at rows in
-    let row = rows_new e at i x added own in
+    let row = rows_new (act_of e) at i x added own in
     let place = some_of (place_at (places later) x) (stands_with_row later x ∙ ap is_some (edit_of_rows e at rows valid free.rows x ∙ row.1 (row_in rows))) in
     let nowhere : mem x (ids rows) ≡ false = ap (λ y. mem y (ids rows)) (sym ((bytes_eq-Decides i x).0 own)) ∙ new_nowhere e rows i free.rows added in
     ap (option_map (holder_at m.records)) place.1
@@ -169,14 +154,14 @@ not_masters m y x s mine its =
 -- the row of what isn't new, by its holder
 row_after : (e : Edit) (at : ℕ) (c : Controllers) (x : List ℕ) (h : Option Holder) → IsValid c.master.ticket.rows → IsFree c.master e → IsOld e x → holder c.master x ≡ h → row_at (later e at c) x h ≡ plain_rows e at (now_shown c) x
 row_after e at c x None valid free old held =
-    edit_of_rows e at c.master.ticket.rows valid free.rows x ∙ rows_as e at (row_in c.master.ticket.rows) (now_shown c) x (sym (ap (row_at c x) held))
+    edit_of_rows e at c.master.ticket.rows valid free.rows x ∙ rows_as (act_of e) at (row_in c.master.ticket.rows) (now_shown c) x (sym (ap (row_at c x) held))
 row_after e at c x (Some Master) valid free old held =
-    edit_of_rows e at c.master.ticket.rows valid free.rows x ∙ rows_as e at (row_in c.master.ticket.rows) (now_shown c) x (sym (ap (row_at c x) held))
+    edit_of_rows e at c.master.ticket.rows valid free.rows x ∙ rows_as (act_of e) at (row_in c.master.ticket.rows) (now_shown c) x (sym (ap (row_at c x) held))
 row_after e at c x (Some (Spawn s)) valid free old held =
     let rows = c.master.ticket.rows in
     let other = not_masters c.master (target e) x s free.held held in
-    ap (option_map_or (λ p. part_row p x) (part_of_spawn c s)) (edit_of_rows e at rows valid free.rows x ∙ rows_stay e at (row_in rows) x other old)
-    ∙ sym (rows_stay e at (now_shown c) x other old ∙ ap (row_at c x) held)
+    ap (option_map_or (λ p. part_row p x) (part_of_spawn c s)) (edit_of_rows e at rows valid free.rows x ∙ rows_stay (act_of e) at (row_in rows) x other old)
+    ∙ sym (rows_stay (act_of e) at (now_shown c) x other old ∙ ap (row_at c x) held)
 
 -- ---- both, point by point
 
@@ -195,7 +180,7 @@ same_old e at c x valid free old still =
 same_new : (e : Edit) (at : ℕ) (c : Controllers) (i x : List ℕ) → IsValid c.master.ticket.rows → StandApart c.master.ticket.rows c.master.records → IsFree c.master e → added_id e ≡ Some i → bytes_eq i x ≡ true → IsSame e at c x
 same_new e at c i x valid apart free added own =
     let rows = c.master.ticket.rows in
-    let row = rows_new e at i x added own in
+    let row = rows_new (act_of e) at i x added own in
     let mine = new_is_masters e at c.master i x valid apart free added own in
     record {
       holds_it = mine ∙ sym (ap (λ o. with_new o (holder c.master) x) added ∙ ap (λ b. cond b (Some Master) (holder c.master x)) own);

@@ -8,10 +8,10 @@ use Rattle.std.specs.Str.{bytes_eq}
 use Rattle.ticket_items.specs.declared.audit.Audit.{Audit}
 use Rattle.ticket_items.specs.declared.audit.Audit.TheVariants as audit
 use Rattle.ticket_items.specs.declared.edit.Edit.{Edit}
-use Rattle.ticket_items.specs.declared.edit.Edit.TheVariants.{SetStatus, SetAttr, SetResStatus, SetResAttr, Note, AddNode, AddResource, AddLink}
+use Rattle.ticket_items.specs.Act.{Act, NodeChange, NodeAddition, NewNode, NewNote, NewResource, act_target, act_added_id}
 use Rattle.ticket_items.specs.Edit.{added_id}
 use Rattle.ticket_rows.specs.Place.{Place, Row, nodes_in, resource_row, up}
-use Rattle.ticket_tree.specs.PlainEdit.{plain_changed, plain_rows, with_row_changed}
+use Rattle.ticket_tree.specs.PlainEdit.{act_row, act_rows_by_id, with_row_changed}
 use Rattle.world.proofs.Master.Spawns.{with_told}
 use Rattle.plain_shop.specs.MergeAudits.{AuditsGrow, audit_tells, audits_of}
 use Rattle.plain_shop.specs.Shop.{Rows}
@@ -69,15 +69,9 @@ line_by : (s : ℕ) (row : Row) (o : Option Row) (b : Bool) → row.audits ≡ [
 line_by s row o true bare new = stays_so s o (Some row) (bare ∙ ap audits_of (sym (new refl)))
 line_by s row o false bare new = stays_so s o o refl
 
-changed_is_quiet : (e : Edit) (at : ℕ) → IsQuiet (plain_changed e at)
-changed_is_quiet (SetStatus n status) at s r = stays_so s (Some r) (Some (plain_changed (SetStatus n status) at r)) refl
-changed_is_quiet (SetAttr n name value) at s r = stays_so s (Some r) (Some (plain_changed (SetAttr n name value) at r)) refl
-changed_is_quiet (SetResStatus y status) at s r = stays_so s (Some r) (Some (plain_changed (SetResStatus y status) at r)) refl
-changed_is_quiet (SetResAttr y name value) at s r = stays_so s (Some r) (Some (plain_changed (SetResAttr y name value) at r)) refl
-changed_is_quiet (Note n text) at s r = (audit.Notification at text ∷ [], refl, one_more s (audit.Notification at text))
-changed_is_quiet (AddNode n id kind job_part status) at s r = stays_so s (Some r) (Some (plain_changed (AddNode n id kind job_part status) at r)) refl
-changed_is_quiet (AddResource n y) at s r = stays_so s (Some r) (Some (plain_changed (AddResource n y) at r)) refl
-changed_is_quiet (AddLink n link) at s r = stays_so s (Some r) (Some (plain_changed (AddLink n link) at r)) refl
+changed_is_quiet : (a : Act) (at : ℕ) → IsQuiet (act_row a at)
+changed_is_quiet (NodeChange n (NewNote text)) at s r = (audit.Notification at text ∷ [], refl, one_more s (audit.Notification at text))
+changed_is_quiet a at s r = stays_so s (Some r) (Some (act_row a at r)) refl
 
 -- what an edit adds has no row before
 abbrev pub IsNew : Edit → Rows → Type 0
@@ -86,15 +80,10 @@ IsNew e rows = (i : List ℕ) → added_id e ≡ Some i → rows i ≡ None
 new_there : (rows : Rows) (i x : List ℕ) → rows i ≡ None → bytes_eq i x ≡ true → rows x ≡ None
 new_there rows i x none same = ap rows (sym ((bytes_eq-Decides i x).0 same)) ∙ none
 
-pub edit_is_quiet : (e : Edit) (at s : ℕ) (rows : Rows) (x : List ℕ) → IsNew e rows → AuditsGrow s 0 (rows x) (plain_rows e at rows x)
-edit_is_quiet (SetStatus n status) at s rows x new = touch_is_quiet s n _ rows x (changed_is_quiet (SetStatus n status) at)
-edit_is_quiet (SetAttr n name value) at s rows x new = touch_is_quiet s n _ rows x (changed_is_quiet (SetAttr n name value) at)
-edit_is_quiet (SetResStatus y status) at s rows x new = touch_is_quiet s y _ rows x (changed_is_quiet (SetResStatus y status) at)
-edit_is_quiet (SetResAttr y name value) at s rows x new = touch_is_quiet s y _ rows x (changed_is_quiet (SetResAttr y name value) at)
-edit_is_quiet (Note n text) at s rows x new = touch_is_quiet s n _ rows x (changed_is_quiet (Note n text) at)
-edit_is_quiet (AddNode n id kind job_part status) at s rows x new = line_by s _ (rows x) (bytes_eq id x) refl (new_there rows id x (new id refl))
-edit_is_quiet (AddResource n y) at s rows x new = line_by s (resource_row y) (rows x) (bytes_eq y.id x) refl (new_there rows y.id x (new y.id refl))
-edit_is_quiet (AddLink n link) at s rows x new = touch_is_quiet s n _ rows x (changed_is_quiet (AddLink n link) at)
+pub edit_is_quiet : (a : Act) (at s : ℕ) (rows : Rows) (x : List ℕ) → ((i : List ℕ) → act_added_id a ≡ Some i → rows i ≡ None) → AuditsGrow s 0 (rows x) (act_rows_by_id a at rows x)
+edit_is_quiet (NodeAddition n (NewNode new)) at s rows x none = line_by s _ (rows x) (bytes_eq new.id x) refl (new_there rows new.id x (none new.id refl))
+edit_is_quiet (NodeAddition n (NewResource y)) at s rows x none = line_by s (resource_row y) (rows x) (bytes_eq y.id x) refl (new_there rows y.id x (none y.id refl))
+edit_is_quiet a at s rows x none = touch_is_quiet s (act_target a) _ rows x (changed_is_quiet a at)
 
 -- one that tells of no merge, above a node
 told_by : (s : ℕ) (f : Row → Row) (rows : Rows) (x : List ℕ) (o : Option (List ℕ)) → IsQuiet f → AuditsGrow s 0 (rows x) (option_map_or (λ u. with_row_changed u f rows) o rows x)

@@ -8,7 +8,7 @@ use Rattle.ticket_items.specs.SpawnId.{is_spawn_number}
 use Rattle.ticket_rows.proofs.AtHome.{find-passes}
 use Rattle.ticket_rows.specs.Place.{Row, nodes_in, up}
 use Rattle.world_items.specs.declared.reply.Reply.TheVariants as reply
-use Rattle.ticket_items.specs.declared.edit.Edit.TheVariants.{SetStatus}
+use Rattle.ticket_items.specs.Act.{NodeChange, NewStatus}
 use Rattle.world.proofs.Runs.Cases.{split, when_false}
 use Rattle.world.proofs.Shop.MergeAudits.{as_often, edit_is_quiet, one_if, telling_is_quiet, told_once, touch_tells}
 use Rattle.world.proofs.Master.Spawns.{told_there}
@@ -105,7 +105,7 @@ abort_tells : (p : PlainState) (a : SpawnState) (at : ℕ) (away opened : Bool)
     → Tells p (cond away (sending_step (reply.Declined a.number) (after_decline a.number p) (ToAbort a.number)) (cond opened (sending_step (reply.Ended a.number) (after_finish Aborted at a p) (ToAbort a.number)) (sending_step (repeat_reply a) p (ToAbort a.number))))
 abort_tells p a at true opened = tells_none (Did (reply.Declined a.number)) p (after_decline a.number p) (λ s. refl) (same_rows p.seen) (same_rows p.now) (phase_stays p (after_decline a.number p) Declined a.number refl refl)
 abort_tells p a at false true =
-    tells_none (Did (reply.Ended a.number)) p (after_finish Aborted at a p) (λ s. refl) (same_rows p.seen) (λ s x. edit_is_quiet (SetStatus a.node (end_word Aborted)) at s p.now x (λ i added. cc))
+    tells_none (Did (reply.Ended a.number)) p (after_finish Aborted at a p) (λ s. refl) (same_rows p.seen) (λ s x. edit_is_quiet (NodeChange a.node (NewStatus (end_word Aborted))) at s p.now x (λ i added. cc))
     (phase_stays p (after_finish Aborted at a p) Done a.number refl refl)
 abort_tells p a at false false = tells_nothing (Did (repeat_reply a)) p (λ s. again_tells (is_taken a.phase) a.number s)
 

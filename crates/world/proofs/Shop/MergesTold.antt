@@ -10,6 +10,7 @@ use Rattle.ticket_items.specs.Ids.{mem}
 use Rattle.ticket_items.specs.declared.edit.Edit.{Edit}
 use Rattle.ticket_items.specs.declared.refusal.Refusal.TheVariants.{UnknownWorker}
 use Rattle.ticket_rows.proofs.Below.{mem-node_ids}
+use Rattle.ticket_items.specs.Act.{act_of}
 use Rattle.ticket_items.specs.Edit.{added_id}
 use Rattle.ticket_rows.specs.Place.{Place, node_places, nodes_in, parent, place_at, places, row_in, up}
 use Rattle.ticket_rows.specs.Ticket.{Job, has_node, ids}
@@ -99,7 +100,7 @@ up_stays w e n u ok free above =
     let known : has_node rows n ≡ true = sym (stands_node rows n) ∙ known_above (place_at (nodes_in tree) n) u above in
     let there : mem n (ids rows) ≡ true = node_among_ids n rows (mem-node_ids rows n ∙ known) in
     parent_told (place_at (nodes_in (plain_places e tree)) n)
-    ∙ ap (option_and_then (λ (t : Told). slice_get t.0 1)) (edit_told e n tree (none_added e rows n is_free.rows there))
+    ∙ ap (option_and_then (λ (t : Told). slice_get t.0 1)) (edit_told (act_of e) n tree (none_added e rows n is_free.rows there))
     ∙ sym (parent_told (place_at (nodes_in tree) n)) ∙ above
 
 up_of : (tree later : List Place) (o : Option SpawnState) (u : List ℕ) → ((n : List ℕ) → up (nodes_in tree) n ≡ Some u → up (nodes_in later) n ≡ Some u) → option_and_then (λ (a : SpawnState). up (nodes_in tree) a.node) o ≡ Some u → option_and_then (λ (a : SpawnState). up (nodes_in later) a.node) o ≡ Some u

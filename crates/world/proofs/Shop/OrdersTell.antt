@@ -7,10 +7,10 @@ use Rattle.std.specs.Option.{option_and_then, option_map_or, option_or}
 use Rattle.ticket_items.specs.Ids.{mem}
 use Rattle.ticket_items.specs.SpawnId.{is_spawn_number}
 use Rattle.ticket_items.specs.declared.edit.Edit.{Edit}
-use Rattle.ticket_items.specs.declared.edit.Edit.TheVariants.{SetStatus, SetAttr, SetResStatus, SetResAttr, Note, AddNode, AddResource, AddLink}
+use Rattle.ticket_items.specs.Act.{Act, NodeChange, NodeAddition, NewStatus, act_added_id, act_of, is_act_structural}
 use Rattle.ticket_items.specs.declared.refusal.Refusal.{Refusal}
 use Rattle.ticket_items.specs.declared.refusal.Refusal.TheVariants.{IsRoot, NotForWorkers, NotInPart, NotLinked, NotOpen, ReadOnly, TooManySpawns, UnknownEntry, UnknownNode, UnknownResource, UnknownWorker}
-use Rattle.ticket_items.specs.Edit.{added_id, is_structural}
+use Rattle.ticket_items.specs.Edit.{is_structural}
 use Rattle.ticket_rows.specs.EditRefusal.{later_refusal}
 use Rattle.ticket_rows.specs.Place.{nodes_in, resources_in, up}
 use Rattle.ticket_rows.specs.Ticket.{first_of, unless}
@@ -52,19 +52,13 @@ pub edit_tells : (e : Edit) (at : ℕ) (p : PlainState) → (edit_refusal e p �
 edit_tells e at p free =
     refused_or_tells (edit_refusal e p) p (quiet_step reply.Edited (after_edit e at p)) (λ none.
     let new = free none in
-    tells_none (Did reply.Edited) p (after_edit e at p) (λ s. refl) (λ s x. edit_is_quiet e at s p.seen x new.0) (λ s x. edit_is_quiet e at s p.now x new.1)
+    tells_none (Did reply.Edited) p (after_edit e at p) (λ s. refl) (λ s x. edit_is_quiet (act_of e) at s p.seen x new.0) (λ s x. edit_is_quiet (act_of e) at s p.now x new.1)
     (record { above = λ s u there. new.2 s u at there; numbers = λ s there. inl there }))
 
 -- what isn't structural adds nothing
-plain_adds : (e : Edit) (i : List ℕ) → is_structural e ≡ false → added_id e ≡ Some i → ⊥
-plain_adds (SetStatus n status) i plain added = cc
-plain_adds (SetAttr n name value) i plain added = cc
-plain_adds (SetResStatus x status) i plain added = cc
-plain_adds (SetResAttr x name value) i plain added = cc
-plain_adds (Note n text) i plain added = cc
-plain_adds (AddNode n id kind job_part status) i plain added = true≢false plain
-plain_adds (AddResource n x) i plain added = true≢false plain
-plain_adds (AddLink n link) i plain added = cc
+plain_adds : (a : Act) (i : List ℕ) → is_act_structural a ≡ false → act_added_id a ≡ Some i → ⊥
+plain_adds (NodeAddition n addition) i plain added = true≢false plain
+plain_adds a i plain added = cc
 
 plain_by : (is_open structural : Bool) (rest : List (Option Refusal)) → first_of (unless is_open NotOpen ∷ unless (not structural) NotForWorkers ∷ rest) ≡ None → structural ≡ false
 plain_by true true rest none = cc
@@ -128,11 +122,11 @@ work_tells : (o : worker_order.Order) (at : ℕ) (p : PlainState) (a : SpawnStat
 work_tells (to_worker.Edit s e) at p a =
     refused_or_tells (work_refusal e a p) p (quiet_step reply.Edited (after_work e at p)) (λ none.
     let plain = plain_by (is_open a.phase) (is_structural e) (unless (is_held e a p || is_to_read e a p) NotInPart ∷ unless (not (is_to_read e a p)) ReadOnly ∷ later_refusal e (plain_lookups p.tree) ∷ []) none in
-    tells_none (Did reply.Edited) p (after_work e at p) (λ t. refl) (same_rows p.seen) (λ t x. edit_is_quiet e at t p.now x (λ i added. absurd (plain_adds e i plain added)))
+    tells_none (Did reply.Edited) p (after_work e at p) (λ t. refl) (same_rows p.seen) (λ t x. edit_is_quiet (act_of e) at t p.now x (λ i added. absurd (plain_adds (act_of e) i plain added)))
     (record { above = λ t u there. there; numbers = λ t there. inl there }))
 work_tells (to_worker.Finish s how) at p a =
     refused_or_tells (unless (is_open a.phase) NotOpen) p (sending_step (reply.Finished s) (after_finish how at a p) (Return s)) (λ none.
-    tells_none (Did (reply.Finished s)) p (after_finish how at a p) (λ t. refl) (same_rows p.seen) (λ t x. edit_is_quiet (SetStatus a.node (end_word how)) at t p.now x (λ i added. cc))
+    tells_none (Did (reply.Finished s)) p (after_finish how at a p) (λ t. refl) (same_rows p.seen) (λ t x. edit_is_quiet (NodeChange a.node (NewStatus (end_word how))) at t p.now x (λ i added. cc))
     (phase_stays p (after_finish how at a p) Done a.number refl refl))
 work_tells (to_worker.Resend s) at p a = refused_or_tells (back_refusal a.phase) p (sending_step (reply.Sent s) p (Return s)) (λ none. tells_nothing (Did (reply.Sent s)) p (λ t. refl))
 

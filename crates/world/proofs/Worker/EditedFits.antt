@@ -8,14 +8,14 @@ use Rattle.ticket_items.specs.Resource.{with_item}
 use Rattle.ticket_items.specs.declared.audit.Audit.{Audit}
 use Rattle.ticket_items.specs.declared.audit.Audit.TheVariants.{Notification}
 use Rattle.ticket_items.specs.declared.edit.Edit.{Edit}
-use Rattle.ticket_items.specs.declared.edit.Edit.TheVariants.{SetStatus, SetAttr, SetResStatus, SetResAttr, Note, AddNode, AddResource, AddLink}
+use Rattle.ticket_items.specs.Act.{Act, Change, NodeChange, ResourceChange, NodeAddition, NewNote, act_of, audits_after, is_act_structural}
 use Rattle.ticket_items.specs.declared.node_row.NodeRow.{NodeRow}
 use Rattle.ticket_items.specs.declared.resource.Resource.{Resource}
 use Rattle.ticket_items.specs.Edit.{is_structural}
-use Rattle.ticket_rows.specs.Edit.{node_after, resource_after}
+use Rattle.ticket_rows.specs.Edit.{changed_node, changed_resource}
 use Rattle.ticket_rows.specs.Place.{named_thing}
 use Rattle.ticket_rows.specs.Ticket.{Job}
-use Rattle.ticket_tree.specs.Part.{PartCopy, edited_part}
+use Rattle.ticket_tree.specs.Part.{PartCopy, act_part, edited_part}
 use Rattle.spawn.specs.Parts.{part_for}
 use Rattle.spawn.specs.declared.records.spawn_rec.SpawnRec.{SpawnRec}
 use Rattle.merge.specs.Shape.{Fits, first_audits, shape}
@@ -88,19 +88,19 @@ fits_still t r p q g keeps fits job spawn rows rw =
       audits = ap (λ rs. map first_audits (zip (part_for t r).rows rs)) rows ∙ first_stay g keeps (part_for t r).rows p.rows fits.audits;
     }
 
--- an edit that isn't structural leaves it so
+audits_begin : (change : Change) (at : ℕ) (first audits : List Audit) → take (length first) audits ≡ first → take (length first) (audits_after change at audits) ≡ first
+audits_begin (NewNote text) at first audits e = begins_still first audits (Notification at text ∷ []) e
+audits_begin change at first audits e = e
+
+-- an act that isn't structural leaves it so
+act_fits : (a : Act) (at : ℕ) (t : Job) (r : SpawnRec) (p : PartCopy) → is_act_structural a ≡ false → Fits t r p → Fits t r (act_part a at p)
+act_fits (NodeChange n change) at t r p plain fits =
+    fits_still t r p _ _ (at_row n (changed_node change at) (record { shape_stays = λ x. refl; audits_stay = λ first x e. audits_begin change at first x.audits e })) fits refl refl refl refl
+act_fits (ResourceChange x change) at t r p plain fits = fits_still t r p _ _ (in_pools x (changed_resource change) (λ y. refl)) fits refl refl refl (fixed_stay x (changed_resource change) (λ y. refl) p.rw)
+act_fits (NodeAddition n addition) at t r p plain fits = absurd (true≢false plain)
+
 pub edited_fits : (e : Edit) (at : ℕ) (t : Job) (r : SpawnRec) (p : PartCopy) → is_structural e ≡ false → Fits t r p → Fits t r (edited_part e at p)
-edited_fits (SetStatus n status) at t r p plain fits = fits_still t r p _ _ (at_row n (node_after (SetStatus n status) at) (record { shape_stays = λ x. refl; audits_stay = λ first x e. e })) fits refl refl refl refl
-edited_fits (SetAttr n name value) at t r p plain fits = fits_still t r p _ _ (at_row n (node_after (SetAttr n name value) at) (record { shape_stays = λ x. refl; audits_stay = λ first x e. e })) fits refl refl refl refl
-edited_fits (SetResStatus x status) at t r p plain fits =
-    fits_still t r p _ _ (in_pools x (resource_after (SetResStatus x status)) (λ y. refl)) fits refl refl refl (fixed_stay x (resource_after (SetResStatus x status)) (λ y. refl) p.rw)
-edited_fits (SetResAttr x name value) at t r p plain fits =
-    fits_still t r p _ _ (in_pools x (resource_after (SetResAttr x name value)) (λ y. refl)) fits refl refl refl (fixed_stay x (resource_after (SetResAttr x name value)) (λ y. refl) p.rw)
-edited_fits (Note n text) at t r p plain fits =
-    fits_still t r p _ _ (at_row n (node_after (Note n text) at) (record { shape_stays = λ x. refl; audits_stay = λ first x e. begins_still first x.audits (Notification at text ∷ []) e })) fits refl refl refl refl
-edited_fits (AddNode n id kind job_part status) at t r p plain fits = absurd (true≢false plain)
-edited_fits (AddResource n x) at t r p plain fits = absurd (true≢false plain)
-edited_fits (AddLink n link) at t r p plain fits = absurd (true≢false plain)
+edited_fits e at t r p plain fits = act_fits (act_of e) at t r p plain fits
 
 -- nor does it matter to it what becomes of the ticket while the part that is made of that stays
 pub fits_later : (t u : Job) (r : SpawnRec) (p : PartCopy) → part_for u r ≡ part_for t r → Fits t r p → Fits u r p

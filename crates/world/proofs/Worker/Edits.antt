@@ -5,18 +5,18 @@ use Rattle.std.proofs.lemmas.Slice.Eq.{bytes_eq-Decides}
 use Rattle.std.specs.Option.{option_and_then, option_map, option_map_or}
 use Rattle.std.specs.Str.{bytes_eq}
 use Rattle.ticket_items.specs.declared.edit.Edit.{Edit}
-use Rattle.ticket_items.specs.declared.edit.Edit.TheVariants.{SetStatus, SetAttr, SetResStatus, SetResAttr, Note, AddNode, AddResource, AddLink}
+use Rattle.ticket_items.specs.Act.{Act, NodeAddition, act_of, act_target, is_act_structural}
 use Rattle.ticket_items.specs.declared.refusal.Refusal.{Refusal}
 use Rattle.ticket_items.specs.declared.refusal.Refusal.TheVariants.{NotForWorkers, NotInPart, NotOpen, ReadOnly}
 use Rattle.ticket_items.specs.Edit.{is_of_node, is_structural, target}
-use Rattle.ticket_rows.specs.EditRefusal.{Lookups, later_refusal}
+use Rattle.ticket_rows.specs.EditRefusal.{Lookups, act_later, later_refusal}
 use Rattle.ticket_rows.specs.PartEdit.{part_lookups}
 use Rattle.ticket_rows.specs.Place.{Row, nodes_in, places, resources_in}
 use Rattle.ticket_rows.specs.Ticket.{first_of, unless}
 use Rattle.ticket_tree.proofs.PartEdits.{part_edit_of_rows}
 use Rattle.ticket_tree.specs.Part.{PartCopy, edited_part, refusal_of_part}
 use Rattle.ticket_tree.specs.PartView.{part_row}
-use Rattle.ticket_tree.specs.PlainEdit.{plain_changed, plain_lookups, plain_rows, stands, with_row_changed}
+use Rattle.ticket_tree.specs.PlainEdit.{act_row, act_rows_by_id, plain_changed, plain_lookups, plain_rows, stands, with_row_changed}
 use Rattle.world_items.specs.declared.reply.Reply.TheVariants as reply
 use Rattle.spawn.specs.Records.{is_out}
 use Rattle.spawn.specs.declared.records.phase.Phase as records
@@ -109,15 +109,9 @@ same_refusal true h k rd rk l m here read later = refl
 same_refusal false h k rd rk l m here read later = ap (λ b. refusal_by false b rd l) here ∙ ap (λ b. refusal_by false k b l) read ∙ ap (refusal_by false k rk) (later refl)
 
 -- what adds nothing to the tree is refused for its Status alone
-same_later : (e : Edit) (a b : Lookups) → is_structural e ≡ false → later_refusal e a ≡ later_refusal e b
-same_later (SetStatus n status) a b plain = refl
-same_later (SetAttr n name value) a b plain = refl
-same_later (SetResStatus x status) a b plain = refl
-same_later (SetResAttr x name value) a b plain = refl
-same_later (Note n text) a b plain = refl
-same_later (AddNode n id kind job_part status) a b plain = absurd (true≢false plain)
-same_later (AddResource n x) a b plain = absurd (true≢false plain)
-same_later (AddLink n link) a b plain = absurd (true≢false plain)
+same_later : (act : Act) (a b : Lookups) → is_act_structural act ≡ false → act_later act a ≡ act_later act b
+same_later (NodeAddition n addition) a b plain = absurd (true≢false plain)
+same_later act a b plain = refl
 
 -- while the entry is open its part has what the spawn holds, and may read what that may
 same_parts : (w : State) (v : worker.State) (s : ℕ) (e : Edit) (x : Entry) (p : PartCopy) → IsConsistent w → worker_of w.controllers.workers v.name ≡ Some v → worker.entry_of v.entries s ≡ Some x → (h : HasRecord w.controllers v.name s x) → worker.is_open x ≡ true → x.part ≡ Some p
@@ -149,7 +143,7 @@ same_edit_refusal w v s e x ok found has_entry h =
     let of = of_open x p opened in
     let same = same_parts w v s e x p ok found has_entry h of.0 of.1 in
     ap (λ o. option_map_or (orders.part_edit_refusal e) o (Some NotOpen)) opened
-    ∙ same_refusal (is_structural e) (orders.is_here e p) (steps.is_held e a plain) (orders.is_to_read e p) (steps.is_to_read e a plain) (later_refusal e (part_lookups p.rows p.rw)) (later_refusal e (plain_lookups plain.tree)) same.0 same.1 (same_later e _ _)
+    ∙ same_refusal (is_structural e) (orders.is_here e p) (steps.is_held e a plain) (orders.is_to_read e p) (steps.is_to_read e a plain) (later_refusal e (part_lookups p.rows p.rw)) (later_refusal e (plain_lookups plain.tree)) same.0 same.1 (same_later (act_of e) _ _)
     ∙ sym (ap (λ b. first_of (unless b NotOpen ∷ rest)) (shown ∙ of.0)))
     (λ none.
     let isn't : shop.is_open a.phase ≡ false = shown ∙ sym (open_has_part x (kept_entry w v s x ok found has_entry)) ∙ ap is_some none in
@@ -172,15 +166,9 @@ changed_stored w v s x f keeps ok found has_entry h =
       numbered = ok.master.numbered;
     }
 
-plain_touch : (e : Edit) (at : ℕ) (rows : List ℕ → Option Row) (x : List ℕ) → is_structural e ≡ false → with_row_changed (target e) (plain_changed e at) rows x ≡ plain_rows e at rows x
-plain_touch (SetStatus n status) at rows x plain = refl
-plain_touch (SetAttr n name value) at rows x plain = refl
-plain_touch (SetResStatus y status) at rows x plain = refl
-plain_touch (SetResAttr y name value) at rows x plain = refl
-plain_touch (Note n text) at rows x plain = refl
-plain_touch (AddNode n id kind job_part status) at rows x plain = absurd (true≢false plain)
-plain_touch (AddResource n y) at rows x plain = absurd (true≢false plain)
-plain_touch (AddLink n link) at rows x plain = absurd (true≢false plain)
+plain_touch : (a : Act) (at : ℕ) (rows : List ℕ → Option Row) (x : List ℕ) → is_act_structural a ≡ false → with_row_changed (act_target a) (act_row a at) rows x ≡ act_rows_by_id a at rows x
+plain_touch (NodeAddition n addition) at rows x plain = absurd (true≢false plain)
+plain_touch a at rows x plain = refl
 
 -- the rows now, after an edit of what the spawn holds that isn't structural
 pub edited_now : (c : Controllers) (name : List ℕ) (s : ℕ) (e : Edit) (at : ℕ) (next : worker.State) (old new : Entry) (p : PartCopy) → (h : HasRecord c name s old) → HasStored c name s next new h.spawn → old.part ≡ Some p → new.part ≡ Some (edited_part e at p) → worker.IsKeptPart old p → is_structural e ≡ false → refusal_of_part e p ≡ None
@@ -194,7 +182,7 @@ edited_now c name s e at next old new p h stored has is kept plain free held x =
     split (bytes_eq (target e) x)
     (λ same. absurd (other (held_here (bytes_eq-Decides (target e) x).0 same)))
     (λ away. sym (when_false (bytes_eq (target e) x) (option_map (plain_changed e at) (row_at c x o)) (row_at c x o) away)))
-    ∙ plain_touch e at (now_shown c) x plain
+    ∙ plain_touch (act_of e) at (now_shown c) x plain
   where
     held_here : (bytes_eq (target e) x ≡ true → target e ≡ x) → bytes_eq (target e) x ≡ true → master.holder c.master x ≡ Some (held_by.Spawn s)
     held_here decides same = ap (master.holder c.master) (sym (decides same)) ∙ held_spawn s (master.holder c.master (target e)) held

@@ -3,14 +3,14 @@ use Rattle.std.proofs.Common.{◌≡◌, ◌∙◌, ◌||◌, ℕ, true, List, [
 use Rattle.std.specs.Option.{option_and_then, option_map, option_map_or}
 use Rattle.ticket_items.specs.Ids.{mem}
 use Rattle.ticket_items.specs.Resource.{resource_ids}
-use Rattle.ticket_items.specs.declared.edit.Edit.TheVariants.{SetStatus}
+use Rattle.ticket_items.specs.Act.{NodeChange, NewStatus}
 use Rattle.ticket_items.specs.declared.node_row.NodeRow.{NodeRow}
 use Rattle.ticket_items.specs.declared.refusal.Refusal.TheVariants.{NotOpen}
 use Rattle.ticket_rows.proofs.Reasons.{node_among}
 use Rattle.ticket_rows.specs.Ticket.{IsValid, Job, unless}
 use Rattle.ticket_tree.proofs.ById.{among_ids}
 use Rattle.ticket_tree.specs.Part.{PartCopy}
-use Rattle.ticket_tree.specs.PlainEdit.{plain_rows}
+use Rattle.ticket_tree.specs.PlainEdit.{act_rows_by_id}
 use Rattle.world_items.specs.declared.reply.Reply.TheVariants as reply
 use Rattle.spawn.proofs.GoodCopies.{good_node}
 use Rattle.spawn.proofs.RowsBelow.{rows_below-around}
@@ -110,7 +110,7 @@ finish_agrees w v s how at ok found x h has_entry taken =
             tree = refl;
             seen = λ y. refl;
             now = λ y. edited_now c v.name s (orders.end_edit q how) at moved.next x new q h stored of.1 (ap (option_map (orders.ended_part how at)) of.1) part refl (ending_free q how part.valid) held y
-                ∙ ap (λ n. plain_rows (SetStatus n (worker.end_word how)) at (now_shown c) y) root;
+                ∙ ap (λ n. act_rows_by_id (NodeChange n (NewStatus (worker.end_word how))) at (now_shown c) y) root;
             holder = λ y. refl;
             spawns = spawns_stored c v.name s moved.next new r shop.Done stored (ap (λ phase. phase_shown phase (Some new)) (phase_out r.phase out))
                 ∙ ap (λ n. in_phase shop.Done n (map (spawn_shown c) c.master.records)) (sym h.number);

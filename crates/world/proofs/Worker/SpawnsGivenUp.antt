@@ -3,11 +3,11 @@ use Rattle.std.proofs.Common.{◌≡◌, ◌∙◌, ℕ, true, false, cond, List
 use Rattle.std.proofs.lemmas.List.Elements.{All-contains}
 use Rattle.std.specs.List.{Contains}
 use Rattle.std.specs.Option.{option_and_then, option_map, option_map_or}
-use Rattle.ticket_items.specs.declared.edit.Edit.TheVariants.{SetStatus}
+use Rattle.ticket_items.specs.Act.{NodeChange, NewStatus}
 use Rattle.ticket_items.specs.declared.refusal.Refusal.{Refusal}
 use Rattle.ticket_tree.specs.Part.{PartCopy}
 use Rattle.ticket_tree.specs.PartView.{part_row}
-use Rattle.ticket_tree.specs.PlainEdit.{plain_rows}
+use Rattle.ticket_tree.specs.PlainEdit.{act_rows_by_id}
 use Rattle.controller.specs.Reply.{answer_to}
 use Rattle.controller.specs.declared.body.Body.TheVariants.{Abort}
 use Rattle.controller.specs.declared.message.Message.{Message}
@@ -181,7 +181,7 @@ ends w v m s at e ok found has_entry h open' answered =
             tree = refl;
             seen = λ x. refl;
             now = λ x. edited_now c v.name s (orders.end_edit q Aborted) at next e new q h stored of.1 (ap (λ (y : Entry). y.part) same ∙ ap (option_map (orders.ended_part Aborted at)) of.1) part refl (ending_free q Aborted part.valid) held x
-                ∙ ap (λ n. plain_rows (SetStatus n (worker.end_word Aborted)) at (now_shown c) x) root;
+                ∙ ap (λ n. act_rows_by_id (NodeChange n (NewStatus (worker.end_word Aborted))) at (now_shown c) x) root;
             holder = λ x. refl;
             spawns = spawns_stored c v.name s next new r Done stored (ap (λ phase. phase_shown phase (Some new)) (phase_out r.phase out) ∙ ap (λ (y : Entry). phase_shown recorded.Out (Some y)) same)
                 ∙ ap (λ n. acts.in_phase Done n (map (spawn_shown c) c.master.records)) (sym h.number);

@@ -4,6 +4,7 @@ use Rattle.ticket_items.specs.Edit.{target}
 use Rattle.ticket_rows.specs.Edit.{lookups, refusal_of}
 use Rattle.ticket_rows.specs.EditRefusal.{later_refusal, unknown_refusal}
 use Rattle.ticket_rows.specs.Ticket.{Job}
+use Rattle.ticket_items.specs.Act.{act_of}
 use Rattle.master_core.proofs.EditReasons.{later_first, unknown_is}
 use Rattle.master_core.specs.Orders.{not_held}
 use Rattle.master_core.proofs.master.Master.edit_refusal.Goals as goal
@@ -16,4 +17,4 @@ returns-in_default c =
     let told = c.not_held-in_default.ensures ∙ ap (not_held w) c.target-in_default.ensures in
     c.or.ensures
     ∙ ap (λ o. option_or o (Some c.in-Err.refusal)) told
-    ∙ later_first (unknown_refusal e at) (not_held w (target e)) (later_refusal e at) c.in-Err.refusal (unknown_is e at) (ap (λ (t : Job). refusal_of e t.rows) (sym c.ticket.ensures) ∙ c.in-Err.ensures) c.in_default.not-UnknownNode c.in_default.not-UnknownResource
+    ∙ later_first (unknown_refusal e at) (not_held w (target e)) (later_refusal e at) c.in-Err.refusal (unknown_is (act_of e) at) (ap (λ (t : Job). refusal_of e t.rows) (sym c.ticket.ensures) ∙ c.in-Err.ensures) c.in_default.not-UnknownNode c.in_default.not-UnknownResource

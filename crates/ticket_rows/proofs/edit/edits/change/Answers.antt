@@ -1,9 +1,10 @@
-use Rattle.std.proofs.Common.{rules, ◌≡◌, ◌∙◌, ◌+◌, ◌++◌, ◌∷◌, [], Some, drop, get_or, refl, sym, ap, slice_get}
+use Rattle.std.proofs.Common.{rules, ◌≡◌, ℕ, List, ◌∙◌, ◌+◌, ◌++◌, ◌∷◌, [], Some, drop, get_or, refl, sym, ap, slice_get}
 use Rattle.std.proofs.lemmas.Bool.{ltb-true}
 use Rattle.std.proofs.lemmas.Option.{slice_get-get_or}
 use Rattle.std.specs.List.{position}
 use Rattle.std.specs.Str.{bytes_eq}
 use Rattle.ticket_items.proofs.Places.{below_length, found_at_position, same_found}
+use Rattle.ticket_items.specs.Act.{BareNode}
 use Rattle.ticket_items.specs.Attrs.{with_attr}
 use Rattle.ticket_items.specs.declared.audit.Audit.TheVariants.{Notification}
 use Rattle.ticket_items.specs.declared.node_row.NodeRow.{NodeRow}
@@ -16,10 +17,13 @@ use Rattle.ticket_rows.proofs.NewNode.{inserted_child, room_at}
 use Rattle.ticket_rows.proofs.Reasons.{child_new, resource_new}
 use Rattle.ticket_rows.specs.Boxed.{contents}
 use Rattle.ticket_rows.specs.ChangedRow.{at_place, changed_place}
-use Rattle.ticket_rows.specs.Edit.{bare_row, edited_rows, refusal_of}
+use Rattle.ticket_rows.specs.Edit.{bare_row, edited_rows, lookups, refusal_of}
 use Rattle.ticket_rows.specs.Index.{shape_of, shapes_of}
 use Rattle.ticket_rows.specs.Ticket.{max_depth}
 use Rattle.ticket_rows.proofs.edit.edits.change.Goals as goal
+
+abbrev child : (id kind job_part status : List ℕ) → BareNode
+child id kind job_part status = record { id = id; kind = kind; job_part = job_part; status = status }
 
 pub set_status-requires : goal.set_status-requires
 set_status-requires c = below_length (λ r. bytes_eq r.id c.in-SetStatus.node) (contents c.args.rows.now.items) c.args.place (ap (λ e. changed_place e (contents c.args.rows.now.items)) (sym c.in-SetStatus.is) ∙ c.requires.place)
@@ -83,7 +87,7 @@ add_node-requires-clause-shallow c r at =
     let rows = contents c.args.rows.now.items in
     let x = c.in-AddNode.node in
     let none = ap (λ e. refusal_of e rows) (sym c.in-AddNode.is) ∙ c.requires.open in
-    let fit = child_new rows x c.in-AddNode.id c.in-AddNode.status none in
+    let fit = child_new x (child c.in-AddNode.id c.in-AddNode.kind c.in-AddNode.job_part c.in-AddNode.status) (lookups rows) none in
     let there = found_at_position (λ s. bytes_eq s.id x) rows c.args.place (ap (λ e. changed_place e (contents c.args.rows.now.items)) (sym c.in-AddNode.is) ∙ c.requires.place) in
     ltb-true r.depth max_depth (room_at rows x r (there.1 ∙ ap Some (same_found there.0 r (slice_get rows c.args.place) there.2 at)) fit.3)
 
@@ -91,7 +95,7 @@ pub add_node-requires-clause-new : goal.add_node-requires-clause-new
 add_node-requires-clause-new c =
     let rows = contents c.args.rows.now.items in
     let none = ap (λ e. refusal_of e rows) (sym c.in-AddNode.is) ∙ c.requires.open in
-    (child_new rows c.in-AddNode.node c.in-AddNode.id c.in-AddNode.status none).2
+    (child_new c.in-AddNode.node (child c.in-AddNode.id c.in-AddNode.kind c.in-AddNode.job_part c.in-AddNode.status) (lookups rows) none).2
 
 pub returns-in-AddNode-clause-ok : goal.returns-in-AddNode-clause-ok
 returns-in-AddNode-clause-ok c =
@@ -138,4 +142,4 @@ pub add_resource-requires-clause-new : goal.add_resource-requires-clause-new
 add_resource-requires-clause-new c =
     let rows = contents c.args.rows.now.items in
     let none = ap (λ e. refusal_of e rows) (sym c.in-AddResource.is) ∙ c.requires.open in
-    resource_new rows c.in-AddResource.node c.in-AddResource.resource none
+    resource_new c.in-AddResource.node c.in-AddResource.resource (lookups rows) none
