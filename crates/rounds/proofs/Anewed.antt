@@ -1,15 +1,19 @@
 -- All that comes to the controller in a cell, of copies, and of the text that was loaded.
-use Rattle.std.proofs.Common.{◌≡◌, ◌∙◌, ◌≤◌, ◌⊎◌, ◌++◌, ℕ, true, false, List, [], ◌∷◌, Option, Some, None, Result, Ok, Err, IfOk, ap, arith, inl, inr, length, refl, subst, suc, sym, ⊎_elim}
+use Rattle.std.proofs.Common.{◌≡◌, ◌∙◌, ◌≤◌, ◌<◌, ◌+◌, ◌⊎◌, ◌++◌, ℕ, Bool, true, false, true≢false, List, [], ◌∷◌, Option, Some, None, Result, Ok, Err, IfOk, ap, arith, get_or, inl, inr, length, refl, subst, suc, sym, take, ⊎_elim}
+use Rattle.std.proofs.lemmas.List.{take_more}
 use Rattle.std.proofs.Math.Nat.{eq-or-lt_of_le}
 use Rattle.keepers.specs.Keeper.{CountRose}
+use Rattle.keepers.specs.declared.keep_fault.KeepFault.{KeepFault}
+use Rattle.keepers.specs.declared.keep_fault.KeepFault.TheVariants as faults
 use Rattle.ticket_items.specs.declared.refusal.Refusal.{Refusal}
+use Rattle.ticket_items.specs.declared.refusal.Refusal.TheVariants as refusals
 use Rattle.controller.specs.declared.message.Message.{Message}
 use Rattle.cells.specs.Chain.{Version}
 use Rattle.cells.specs.Kept.{IsStepped}
 use Rattle.stored_state.specs.Addressee.{is_addressed}
 use Rattle.stored_state.specs.AnyStep.{IsNoOrder, IsOrdered, text_of}
 use Rattle.stored_state.specs.Step.{TextStep}
-use Rattle.stored_state.specs.TakingAll.{AreFrom, Gives, TakesAll, TakesEach, TakesNone, TakesOne, sender_in}
+use Rattle.stored_state.specs.TakingAll.{AreFrom, Gives, IsKept, TakesAll, TakesEach, TakesNone, TakesOne, sender_in}
 use Rattle.stored_state.specs.declared.addressee.Addressee.{Addressee}
 use Rattle.stored_state.specs.declared.any_controller.AnyController.{AnyController}
 use Rattle.stored_state.specs.declared.coming.Coming.{Coming}
@@ -27,6 +31,13 @@ copied_more [] [] x y so is = (is, tt)
 copied_more [] (v ∷ copied) x y so is = absurd so
 copied_more (u ∷ all) [] x y so is = absurd so
 copied_more (u ∷ all) (v ∷ copied) x y so is = (so.0, copied_more all copied x y so.1 is)
+
+-- one more of these
+pub next_copied : (all : List Coming) (i : ℕ) (x : Coming) (copied after : List Coming) (y : Coming) → i < length all → x ≡ get_or all i x → AreCopies (take i all) copied → IsCopy x y → after ≡ copied ++ y ∷ [] → AreCopies (take (i + 1) all) after
+next_copied all i x copied after y within is so same pushed =
+    subst (AreCopies (take (i + 1) all)) (sym pushed)
+    (subst (λ (xs : List Coming). AreCopies xs (copied ++ y ∷ [])) (sym (take_more all i x within))
+    (copied_more (take i all) copied (get_or all i x) y so (subst (λ (v : Coming). IsCopy v y) is same)))
 
 pub as_many_copies : (all copied : List Coming) → AreCopies all copied → length copied ≡ length all
 as_many_copies [] [] so = refl
@@ -134,6 +145,20 @@ none_in_memory to at all before after old new refused.OtherName none = tt
 none_in_memory to at all before after old new refused.SaveFailed none = absurd none.fails.fails.3
 none_in_memory to at all before after old new e none = absurd none
 
+-- a load failed
+pub not_loaded : (to : Addressee) (at : ℕ) (all : List Coming) (old new : ℕ) (fault : KeepFault) (e : Refused) → (fault ≡ faults.Failed → e ≡ refused.LoadFailed) → (fault ≡ faults.Memory → e ≡ refused.Core refusals.Memory) → (fault ≡ faults.Failed → CountRose old new) → CellTakesNone to at all old new e
+not_loaded to at all old new faults.Failed e failed memory raised =
+    subst (CellTakesNone to at all old new) (sym (failed refl)) (raised refl)
+not_loaded to at all old new faults.Memory e failed memory raised =
+    subst (CellTakesNone to at all old new) (sym (memory refl)) tt
+
+-- a save failed
+pub not_saved : (to : Addressee) (at : ℕ) (all : List Coming) (old new : ℕ) (fault : KeepFault) (e : Refused) → (fault ≡ faults.Failed → e ≡ refused.SaveFailed) → (fault ≡ faults.Memory → e ≡ refused.Core refusals.Memory) → ComesTo to at all → (fault ≡ faults.Failed → CountRose old new) → CellTakesNone to at all old new e
+not_saved to at all old new faults.Failed e failed memory comes raised =
+    subst (CellTakesNone to at all old new) (sym (failed refl)) (comes, raised refl)
+not_saved to at all old new faults.Memory e failed memory comes raised =
+    subst (CellTakesNone to at all old new) (sym (memory refl)) tt
+
 -- ---- as of any keeper
 
 module _ {K : Type 0} (place : K → List ℕ) (count : K → ℕ) where
@@ -156,3 +181,25 @@ module _ {K : Type 0} (place : K → List ℕ) (count : K → ℕ) where
     taken = taken.2.taken;
     kept = kept_so given.0 given.1 old new taken.0 taken.1 taken.2.kept;
   }
+
+  pub none_taken : (load_fails : K → K → Type 0) (save_fails : K → List ℕ → K → Type 0) (to : Addressee) (at : ℕ) (all : List Coming) (old new : K) (e : Refused) → (CountRose (count old) (count new) → load_fails old new) → ((text : List ℕ) → CountRose (count old) (count new) → save_fails old text new) → CellTakesNone to at all (count old) (count new) e → TakesNone dishonest no_bytes place count load_fails save_fails to at all old new e
+  none_taken load_fails save_fails to at all old new (refused.Core e) loads saves none =
+      (λ is. absurd (true≢false (sym is)), λ is. absurd (true≢false (sym is)))
+  none_taken load_fails save_fails to at all old new refused.LoadFailed loads saves none =
+      (λ is. absurd (true≢false (sym is)), loads none, none)
+  none_taken load_fails save_fails to at all old new refused.OtherName loads saves none =
+      (λ is. absurd (true≢false (sym is)), λ is. absurd (true≢false (sym is)))
+  none_taken load_fails save_fails to at all old new refused.SaveFailed loads saves none = record {
+    before = none.0.before;
+    was = λ is. absurd (true≢false (sym is));
+    addressed = none.0.addressed;
+    steps = none.0.steps;
+    last = none.0.last;
+    each = none.0.each;
+    fails = record {
+      either = λ is. absurd (true≢false (sym is));
+      fails = (old, refl, refl, saves (text_of none.0.last) none.1);
+      failures = none.1;
+    };
+  }
+  none_taken load_fails save_fails to at all old new e loads saves none = absurd none

@@ -1,6 +1,7 @@
 //! All that comes to the controller in a cell that others may share, with one save.
 
 ghost use Rattle.std.specs.Prelude.{◌≡◌, ◌≤◌, true, length, IfErr, IfOk, OnOk};
+ghost use Rattle.streams.specs.declared.refused.Refused.TheVariants.{Core};
 ghost use Rattle.cells.specs.Kept.{IsPartOf, IsStepped};
 ghost use Rattle.keepers.specs.Crash.{IsWithin};
 ghost use Rattle.rounds.specs.Anew.{AreCopies, CellTakesNone, IsCopy, IsTaken, TakesText};
@@ -30,13 +31,17 @@ fn copies_of(alloc: Global, all: &[Coming]) -> Result<Vec<Coming>, AllocError>
 {
     let mut copied = Vec::with_capacity(alloc, all.len())?;
     for coming in all {
-        copied.push(copy_of(alloc, coming)?)?;
+        let copy = copy_of(alloc, coming)?;
+        copied.push(copy)?;
     }
     Ok(copied)
 }
 
 /// Why a round gives nothing out where this call of its keeper fails, which else refuses so.
-fn refused_for(fault: KeepFault, refused: Refused) -> Refused {
+fn refused_for(fault: KeepFault, refused: Refused) -> Refused
+    ensures failed { fault ≡ KeepFault.Failed → result ≡ refused }
+    ensures memory { fault ≡ KeepFault.Memory → result ≡ Core Refusal.Memory }
+{
     match fault {
         KeepFault::Failed => refused,
         KeepFault::Memory => Refused::Core(Refusal::Memory),
