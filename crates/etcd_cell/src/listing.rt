@@ -8,7 +8,7 @@ ghost use Rattle.etcd_cell.specs.Asking.{listing_asked};
 ghost use Rattle.etcd_cell.specs.Cell.{Learns, LearnsNothing};
 ghost use Rattle.etcd_cell.specs.Exchange.{Hears, IsUnheard};
 
-use crate::connector::Connector;
+use crate::connector::{Connector, connection_to};
 use crate::exchange::post;
 use crate::gateway::Gateway;
 use etcd_wire::{KeyVersion, NoAnswer, Response, listed_of, listing_request};
@@ -82,8 +82,8 @@ pub fn keys_in<C: Connector>(
         (λ status body. (ks : List answers.KeyVersion)
         → Tells status body (λ _ j. IsListing j ks) → ⊥) }
 {
-    match connector.connection(gateway.authority()) {
-        Ok(stream) => list_over(alloc, &mut Counted::new(stream), gateway, folder),
+    match connection_to(connector, gateway) {
+        Ok(mut stream) => list_over(alloc, &mut stream, gateway, folder),
         Err(_) => Err(NoAnswer::Unknown),
     }
 }

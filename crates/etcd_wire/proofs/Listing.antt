@@ -1,7 +1,7 @@
 -- The keys of a folder in an answer.
 use Rattle.std.proofs.Common.{◌≡◌, ◌⊎◌, inl, inr, Option, Some, None, ◌<◌, ◌+◌, ℕ, zero, suc, ◌++◌, ◌∷◌, [], List, length, map, take, get_or, arith, refl, ap, sym, ◌∙◌, subst}
 use Rattle.std.proofs.lemmas.List.{map_more}
-use Rattle.json.specs.Json.{Json, Items, array, item, no_items}
+use Rattle.json.specs.Json.{Json, Items, array, item}
 use Rattle.json.specs.Value.{items_of}
 use Rattle.etcd_wire.specs.Answer.{AreKeyVersions, IsKeyVersion, KeyVersion}
 
