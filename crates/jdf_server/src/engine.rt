@@ -1,11 +1,13 @@
+use rounds::{AnsweredClient, AnsweredOperator};
 use std::time::{Clock, Duration, Instant};
+use streams::Refused;
 
 /// For how many milliseconds an exchange with the engine is waited for, and the engine left alone
-/// behind one that took as long.
+/// where none was answered.
 const ENGINE_TIME: u64 = 1_000;
 
-/// The engine that keeps what is served, where that isn't a file. While it doesn't answer, nobody
-/// who could be served without it waits for long (our own).
+/// The engine that keeps what is served, where that isn't a file. Where it doesn't answer it is
+/// left alone for a while, so that those who don't want it are served (our own).
 #[derive(Clone, Copy)]
 pub(crate) struct Engine {
     /// Since when it is left alone.
@@ -31,12 +33,9 @@ impl Engine {
         }
     }
 
-    /// Notes that it was asked from this moment on until now: where that took as long as an
-    /// exchange may, it is left alone for a while.
-    pub(crate) fn note<R: Clock>(&mut self, rt: &R, begun: Option<Instant>) {
-        if let Some(time) = time_since(rt, begun)
-            && time >= Engine::limit()
-        {
+    /// Leaves it alone from now on for a while, if what was asked failed.
+    pub(crate) fn note<R: Clock>(&mut self, rt: &R, is_failed: bool) {
+        if is_failed {
             self.left_at = Instant::now(rt).ok();
         }
     }
@@ -47,5 +46,29 @@ fn time_since<R: Clock>(rt: &R, moment: Option<Instant>) -> Option<Duration> {
     match moment {
         Some(moment) => moment.elapsed(rt).ok(),
         None => None,
+    }
+}
+
+/// Whether what keeps a controller failed, as what is told of a step tells.
+fn is_failure(refusal: Option<Refused>) -> bool {
+    match refusal {
+        Some(Refused::LoadFailed | Refused::SaveFailed) => true,
+        _ => false,
+    }
+}
+
+/// The same as what those who sent messages are told, who all are told so where it did.
+pub(crate) fn are_failed<S: Drop>(answered: &[AnsweredClient<S>]) -> bool {
+    match answered.first() {
+        Some(one) => is_failure(one.told.refusal),
+        None => false,
+    }
+}
+
+/// The same as what those who gave orders are told.
+pub(crate) fn orders_are_failed<S: Drop>(told: &[AnsweredOperator<S>]) -> bool {
+    match told.first() {
+        Some(one) => is_failure(one.told.refusal),
+        None => false,
     }
 }

@@ -7,7 +7,7 @@ ghost use Rattle.jdf_server.specs.InEtcd.{IsKeepAt};
 ghost use Rattle.jdf_server.specs.Journaled.{KeepsJournalAt};
 ghost use Rattle.jdf_server.specs.Steps.{IsSteppedAt};
 
-use crate::engine::Engine;
+use crate::engine::{Engine, are_failed};
 use crate::stepping::{
     Look, OwnStepResult, StepsResult, check_file, check_found, look_at, look_in_file, step_in_file,
     step_kept, step_own_in_file, step_own_kept,
@@ -21,7 +21,7 @@ use mio::net::TcpStream;
 use rounds::{Errand, Room, refuse_errands};
 use std::alloc::{AllocError, Global};
 use std::net::Net;
-use std::time::{Clock, Instant};
+use std::time::Clock;
 use stored_state::{Addressee, Coming, SavedState};
 use streams::Refused;
 
@@ -73,11 +73,10 @@ fn step_in_etcd<R: Net + Clock, J: Journal>(
         let answered = refuse_errands(alloc, errands, room, Refused::LoadFailed, now);
         return Ok(StepsResult::Answered(answered, None));
     };
-    let begun = Instant::now(rt).ok();
     let (answered, saved) = step_kept(
         rt, alloc, keep, last, to, errands, room, now, journal,
     );
-    engine.note(rt, begun);
+    engine.note(rt, are_failed(answered.as_slice()));
     Ok(StepsResult::Answered(answered, saved))
 }
 
@@ -133,9 +132,12 @@ fn step_own_in_etcd<R: Net + Clock, J: Journal>(
     };
     match keep_for(rt, alloc, path, engine) {
         Ok(Some(keep)) => {
-            let begun = Instant::now(rt).ok();
             let stepped = step_own_kept(alloc, keep, last, to, all, at, journal);
-            engine.note(rt, begun);
+            let is_failed = match &stepped {
+                OwnStepResult::Failed => true,
+                OwnStepResult::Stepped(_, _) | OwnStepResult::LockedOut(_, _) => false,
+            };
+            engine.note(rt, is_failed);
             stepped
         }
         Ok(None) | Err(_) => {
@@ -172,10 +174,9 @@ fn value_at<R: Net + Clock>(
 ) -> Option<Vec<u8>> {
     match keep_for(rt, alloc, path, engine) {
         Ok(Some(mut keep)) => {
-            let begun = Instant::now(rt).ok();
-            let loaded = keep.load();
-            engine.note(rt, begun);
-            loaded.ok()
+            let loaded = keep.load().ok();
+            engine.note(rt, loaded.is_none());
+            loaded
         }
         Ok(None) | Err(_) => None,
     }

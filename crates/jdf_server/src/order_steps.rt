@@ -6,7 +6,7 @@ ghost use Rattle.rounds.specs.Orders.{HasReply};
 ghost use Rattle.etcd_place.specs.Place.{is_etcd as is_etcd_text};
 ghost use Rattle.jdf_server.specs.Orders.{AreOrdersStepped, AreOrdersSteppedAt, OrdersKept};
 
-use crate::engine::Engine;
+use crate::engine::{Engine, orders_are_failed};
 use crate::etcd_steps::keep_for;
 use crate::journaling::{journal_order_steps, words_of};
 use crate::line::Line;
@@ -23,7 +23,7 @@ use shop_folder::Owner;
 use std::alloc::{AllocError, Global};
 use std::io::Write;
 use std::net::Net;
-use std::time::{Clock, Instant};
+use std::time::Clock;
 use stored_state::{Addressee, SavedState};
 use streams::Refused;
 
@@ -149,9 +149,8 @@ fn order_in_etcd<R: Net + Clock, J: Journal>(
         let told = refuse_errands(alloc, orders, room, Refused::LoadFailed, now);
         return Ok(OrdersResult::Told(told, None));
     };
-    let begun = Instant::now(rt).ok();
     let (told, saved) = order_kept(rt, alloc, keep, last, to, orders, room, now, journal);
-    engine.note(rt, begun);
+    engine.note(rt, orders_are_failed(told.as_slice()));
     Ok(OrdersResult::Told(told, saved))
 }
 

@@ -203,3 +203,29 @@ module _ {K : Type 0} (place : K → List ℕ) (count : K → ℕ) where
     };
   }
   none_taken load_fails save_fails to at all old new e loads saves none = absurd none
+
+-- ---- what is saved in the cell
+
+-- the text of the state behind the last, which was saved
+pub text_saved : (to : Addressee) (at : ℕ) (all : List Coming) (old new text : List ℕ) (given : List (Result TakenBytes Refusal)) (next : Option AnyController) (saved : AnyController) → TakesText to at all old new (given, next) → next ≡ Some saved → text ≡ text_of saved → TakesText to at all old text (given, Some saved)
+text_saved to at all old new text given next saved takes is same =
+    let some = subst (λ (n : Option AnyController). TakesText to at all old new (given, n)) is takes in record {
+      before = some.before;
+      was = some.was;
+      addressed = some.addressed;
+      last = some.last;
+      taken = some.taken;
+      kept = (some.kept.0, λ honest. same ∙ ap text_of some.kept.0);
+    }
+
+-- where no step was made the text stays
+pub text_stays : (to : Addressee) (at : ℕ) (all : List Coming) (old new : List ℕ) (given : List (Result TakenBytes Refusal)) (next : Option AnyController) → TakesText to at all old new (given, next) → next ≡ None → TakesText to at all old old (given, None)
+text_stays to at all old new given next takes is =
+    let none = subst (λ (n : Option AnyController). TakesText to at all old new (given, n)) is takes in record {
+      before = none.before;
+      was = none.was;
+      addressed = none.addressed;
+      last = none.last;
+      taken = none.taken;
+      kept = (none.kept.0, none.kept.1, λ honest. refl);
+    }
