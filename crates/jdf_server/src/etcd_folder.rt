@@ -31,9 +31,9 @@ fn is_held<R: Net + Clock>(
         return Ok(None);
     }
     let mut cell = place.cell(rt, alloc, Engine::limit())?;
-    let begun = Instant::now(rt).ok();
+    let asked = Instant::now(rt).ok();
     let read = cell.read();
-    engine.note(rt, begun);
+    engine.note(rt, asked, read.is_err());
     match read {
         Ok(version) => Ok(Some(!version.bytes().is_empty())),
         Err(_) => Ok(None),
@@ -50,9 +50,9 @@ fn keys_below<R: Net + Clock>(
     if engine.is_left(rt) {
         return None;
     }
-    let begun = Instant::now(rt).ok();
+    let asked = Instant::now(rt).ok();
     let keys = folder.keys(rt, alloc, Engine::limit());
-    engine.note(rt, begun);
+    engine.note(rt, asked, keys.is_err());
     keys.ok()
 }
 
