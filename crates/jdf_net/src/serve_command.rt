@@ -4,7 +4,7 @@ ghost use Rattle.std.specs.Prelude.{◌≡◌, ◌⊎◌, IfErr};
 ghost use Rattle.jdf_net.specs.ServeCommand.{EndsServe, IsUnserved};
 ghost use Rattle.streams.specs.declared.refused.Refused.TheVariants.{NoConnection, WriteFailed};
 
-use etcd_place::{EtcdPlace, is_etcd};
+use etcd_place::{EtcdFolder, EtcdPlace, is_etcd};
 use jdf_commands::{CausedFault, give_up_caused};
 use jdf_server::{Post, Server, Service, check_path};
 use keepers::Locks;
@@ -70,20 +70,23 @@ fn listen_fault(alloc: Global, address: &str, error: &io::Error) -> CausedFault
     }
 }
 
-/// What is served: what lies at a path, or the value of a place in etcd, which isn't looked for
-/// among files.
+/// What is served: what lies at a path, or the value of a place in etcd, or those of a folder
+/// there, with a `/` behind it; which aren't looked for among files.
 fn place_of<'a, R: Files>(rt: &R, path: &'a str) -> Place<'a> {
-    if is_etcd(path) {
-        return Place::File(path);
+    if !is_etcd(path) {
+        return Place::at(rt, path);
     }
-    Place::at(rt, path)
+    match path.strip_suffix("/") {
+        Some(folder) => Place::Folder(folder),
+        None => Place::File(path),
+    }
 }
 
 /// What is known where nothing could be loaded of what is to be a place in etcd.
 fn etcd_words(path: &str) -> &'static str {
     match EtcdPlace::of(path) {
         Some(_) => "nothing is kept there, or its node doesn't answer",
-        None => "a place in etcd is etcd://HOST:PORT/NAME",
+        None => "a place in etcd is etcd://HOST:PORT/NAME, and a folder etcd://HOST:PORT/",
     }
 }
 
@@ -112,7 +115,12 @@ fn check<R: Locks + Net + Clock>(
 ) -> Result<(), Refused> {
     match place {
         Place::File(path) => check_path(rt, alloc, path),
-        Place::Folder(_) => Ok(()),
+        Place::Folder(path) => {
+            if is_etcd(path) && EtcdFolder::of(path).is_none() {
+                return Err(Refused::LoadFailed);
+            }
+            Ok(())
+        }
     }
 }
 
@@ -130,6 +138,9 @@ fn peers_path<R: Files>(
     match place {
         Place::File(_) => Ok(None),
         Place::Folder(folder) => {
+            if is_etcd(folder) {
+                return Ok(None);
+            }
             let path = in_folder(alloc, folder, PEERS)?;
             match Lies::at(rt, path.as_str()) {
                 Lies::File => Ok(Some(path)),

@@ -33,9 +33,13 @@ impl Engine {
         }
     }
 
-    /// Leaves it alone from now on for a while, if what was asked failed.
-    pub(crate) fn note<R: Clock>(&mut self, rt: &R, is_failed: bool) {
-        if is_failed {
+    /// Leaves it alone from now on for a while, if what was asked at a moment failed and took as
+    /// long as an exchange may. What it refuses at once costs nobody time.
+    pub(crate) fn note<R: Clock>(&mut self, rt: &R, asked: Option<Instant>, is_failed: bool) {
+        if is_failed
+            && let Some(time) = time_since(rt, asked)
+            && time >= Engine::limit()
+        {
             self.left_at = Instant::now(rt).ok();
         }
     }

@@ -21,7 +21,7 @@ use mio::net::TcpStream;
 use rounds::{Errand, Room, refuse_errands};
 use std::alloc::{AllocError, Global};
 use std::net::Net;
-use std::time::Clock;
+use std::time::{Clock, Instant};
 use stored_state::{Addressee, Coming, SavedState};
 use streams::Refused;
 
@@ -73,10 +73,11 @@ fn step_in_etcd<R: Net + Clock, J: Journal>(
         let answered = refuse_errands(alloc, errands, room, Refused::LoadFailed, now);
         return Ok(StepsResult::Answered(answered, None));
     };
+    let asked = Instant::now(rt).ok();
     let (answered, saved) = step_kept(
         rt, alloc, keep, last, to, errands, room, now, journal,
     );
-    engine.note(rt, are_failed(answered.as_slice()));
+    engine.note(rt, asked, are_failed(answered.as_slice()));
     Ok(StepsResult::Answered(answered, saved))
 }
 
@@ -132,12 +133,13 @@ fn step_own_in_etcd<R: Net + Clock, J: Journal>(
     };
     match keep_for(rt, alloc, path, engine) {
         Ok(Some(keep)) => {
+            let asked = Instant::now(rt).ok();
             let stepped = step_own_kept(alloc, keep, last, to, all, at, journal);
             let is_failed = match &stepped {
                 OwnStepResult::Failed => true,
                 OwnStepResult::Stepped(_, _) | OwnStepResult::LockedOut(_, _) => false,
             };
-            engine.note(rt, is_failed);
+            engine.note(rt, asked, is_failed);
             stepped
         }
         Ok(None) | Err(_) => {
@@ -174,8 +176,9 @@ fn value_at<R: Net + Clock>(
 ) -> Option<Vec<u8>> {
     match keep_for(rt, alloc, path, engine) {
         Ok(Some(mut keep)) => {
+            let asked = Instant::now(rt).ok();
             let loaded = keep.load().ok();
-            engine.note(rt, loaded.is_none());
+            engine.note(rt, asked, loaded.is_none());
             loaded
         }
         Ok(None) | Err(_) => None,

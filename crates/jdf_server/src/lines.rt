@@ -10,6 +10,7 @@ ghost use Rattle.jdf_server.specs.Steps.{StepsLineTo, StepsThere, WaitsOn};
 ghost use Rattle.std.specs.Option.{option_map};
 
 use crate::entry::Entry;
+use crate::etcd_folder::{begin_at, is_missing_at};
 use crate::etcd_steps::step_at;
 use crate::hearing::hear_all;
 use crate::line::Line;
@@ -17,7 +18,7 @@ use crate::own::Own;
 use crate::post::Post;
 use crate::route::{Route, route_of};
 use crate::server::Server;
-use crate::stepping::{StepsResult, begin_in_file, is_missing};
+use crate::stepping::StepsResult;
 use controller::{Body, Message};
 use http_edge::Received;
 use http_message::lone_field;
@@ -183,7 +184,7 @@ impl<'a, R: Locks + Net + Clock, F: Write + Drop> Server<'a, R, F> {
     ) -> Result<(), AllocError>
         ensures { OnOk result (StandsOrMisses waiting message self.old self.new) }
     {
-        match route_of(self.rt, self.alloc, &self.place, &message)? {
+        match route_of(self.rt, self.alloc, &self.place, &message, &mut self.engine)? {
             Some(route) => self.stand(route, waiting, Coming::Message(message)),
             None => self.clients.miss(waiting),
         }
@@ -243,7 +244,7 @@ impl<'a, R: Locks + Net + Clock, F: Write + Drop> Server<'a, R, F> {
     pub(crate) fn is_missing(&self, path: &str) -> bool {
         match self.place {
             Place::File(_) => false,
-            Place::Folder(_) => is_missing(self.rt, path),
+            Place::Folder(_) => is_missing_at(self.rt, self.alloc, path, self.engine),
         }
     }
 
@@ -256,7 +257,7 @@ impl<'a, R: Locks + Net + Clock, F: Write + Drop> Server<'a, R, F> {
         }
         match to {
             Owner::WorkerOf(name, master) => {
-                begin_in_file(self.rt, self.alloc, path, name, master)
+                begin_at(self.rt, self.alloc, path, name, master)
             }
             Owner::Any | Owner::Named(_) => false,
         }

@@ -23,7 +23,7 @@ use shop_folder::Owner;
 use std::alloc::{AllocError, Global};
 use std::io::Write;
 use std::net::Net;
-use std::time::Clock;
+use std::time::{Clock, Instant};
 use stored_state::{Addressee, SavedState};
 use streams::Refused;
 
@@ -149,8 +149,9 @@ fn order_in_etcd<R: Net + Clock, J: Journal>(
         let told = refuse_errands(alloc, orders, room, Refused::LoadFailed, now);
         return Ok(OrdersResult::Told(told, None));
     };
+    let asked = Instant::now(rt).ok();
     let (told, saved) = order_kept(rt, alloc, keep, last, to, orders, room, now, journal);
-    engine.note(rt, orders_are_failed(told.as_slice()));
+    engine.note(rt, asked, orders_are_failed(told.as_slice()));
     Ok(OrdersResult::Told(told, saved))
 }
 

@@ -1,6 +1,7 @@
 //! What a reader of the page is answered with.
 
 use crate::engine::Engine;
+use crate::etcd_folder::lists;
 use crate::etcd_steps::{answers, look_at_path};
 use crate::health::Health;
 use crate::lines::keep_in;
@@ -107,6 +108,7 @@ fn can_keep<R: Files + Net + Clock>(
 ) -> Result<bool, AllocError> {
     match place {
         Place::File(path) if is_etcd(path) => Ok(answers(rt, alloc, path, engine)),
+        Place::Folder(path) if is_etcd(path) => Ok(lists(rt, alloc, path, engine)),
         _ => can_write(rt, alloc, place),
     }
 }
@@ -114,7 +116,7 @@ fn can_keep<R: Files + Net + Clock>(
 /// What is told where they can't be.
 fn no_room(place: &Place<'_>) -> &'static str {
     match place {
-        Place::File(path) if is_etcd(path) => "etcd doesn't answer\n",
+        Place::File(path) | Place::Folder(path) if is_etcd(path) => "etcd doesn't answer\n",
         _ => "the folder of the controllers can't be written\n",
     }
 }

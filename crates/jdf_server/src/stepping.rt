@@ -126,7 +126,7 @@ pub(crate) fn step_in_file<R: Locks + Clock, J: Journal>(
 }
 
 /// Begins a worker of this name for this master. Answers whether the keeper has it.
-fn begin_kept<K: Keep>(alloc: Global, keep: K, name: &Id, master: &Id) -> bool {
+pub(crate) fn begin_kept<K: Keep>(alloc: Global, keep: K, name: &Id, master: &Id) -> bool {
     let Ok(name) = name.copy(alloc) else {
         drop(keep);
         return false;

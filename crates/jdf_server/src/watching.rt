@@ -1,11 +1,16 @@
 //! The files of what is served, and the peers' file, as they change beside the server.
 
+use crate::engine::Engine;
+use crate::etcd_folder::controllers_in;
 use crate::etcd_steps::look_at_path;
 use crate::houses::Houses;
 use crate::lines::keep_in;
+use crate::mark::Mark;
 use crate::post::Post;
+use crate::route::Route;
 use crate::server::Server;
 use crate::stepping::Look;
+use crate::watched::MarkedFile;
 use etcd_place::is_etcd;
 use keepers::Locks;
 use peers_file::peers_in_file;
@@ -30,30 +35,64 @@ pub(crate) fn changed_at<R: Files>(rt: &R, path: &str) -> Option<SystemTime> {
     there.modified().ok()
 }
 
-/// What tells of a controller's file or key whether it is to be read again: when the file was
-/// changed. No time is told of a key, which is read at each look.
-fn mark_of<R: Files + Clock>(rt: &R, path: &str) -> Option<SystemTime> {
-    if is_etcd(path) {
-        return SystemTime::now(rt).ok();
+/// What tells of a file whether it is to be read again: when it was changed.
+fn mark_of<R: Files>(rt: &R, path: &str) -> Option<Mark> {
+    match changed_at(rt, path) {
+        Some(changed) => Some(Mark::Moment(changed)),
+        None => None,
     }
-    changed_at(rt, path)
 }
 
-/// What is served, as files.
+/// The same of the one controller that is served: under a key it is read at each look.
+fn mark_of_one<R: Files + Clock>(rt: &R, path: &str) -> Option<Mark> {
+    if !is_etcd(path) {
+        return mark_of(rt, path);
+    }
+    match SystemTime::now(rt) {
+        Ok(now) => Some(Mark::Moment(now)),
+        Err(_) => None,
+    }
+}
+
+/// The files of a folder.
 fn files_of<R: Files + Alloc + Clone + Drop>(
     rt: &R,
     alloc: Global,
+    folder: &str,
+) -> io::Result<Vec<MarkedFile>> {
+    let files = files_in(rt, alloc, folder)?;
+    let mut marked = Vec::with_capacity(alloc, files.len())?;
+    for FolderFile { path, owner } in files {
+        let mark = mark_of(rt, path.as_str());
+        let route = Route { path, to: owner };
+        marked.push(MarkedFile { route, mark })?;
+    }
+    Ok(marked)
+}
+
+/// What is served, where that can be told.
+fn served_now<R: Files + Net + Clock + Alloc + Clone + Drop>(
+    rt: &R,
+    alloc: Global,
     place: &Place<'_>,
-) -> io::Result<Vec<FolderFile>> {
+    engine: &mut Engine,
+) -> Result<Option<Vec<MarkedFile>>, AllocError> {
     match place {
         Place::File(file) => {
             let mut files = Vec::with_capacity(alloc, 1)?;
+            let mark = mark_of_one(rt, file);
             let path = String::from_str(alloc, file)?;
-            let owner = Owner::Any;
-            files.push(FolderFile { path, owner })?;
-            Ok(files)
+            let to = Owner::Any;
+            let route = Route { path, to };
+            files.push(MarkedFile { route, mark })?;
+            Ok(Some(files))
         }
-        Place::Folder(folder) => files_in(rt, alloc, folder),
+        Place::Folder(folder) => {
+            if is_etcd(folder) {
+                return controllers_in(rt, alloc, folder, engine);
+            }
+            Ok(files_of(rt, alloc, folder).ok())
+        }
     }
 }
 
@@ -136,13 +175,14 @@ impl<'a, R: Locks + Net + Clock + Alloc + Clone + Drop, F: Write + Drop> Server<
         }
         self.watched.look_at = self.clients.now.saturating_add(LOOK_TIME);
         self.watch_peers()?;
-        let Ok(files) = files_of(self.rt, self.alloc, &self.place) else {
+        let (rt, engine) = (self.rt, &mut self.engine);
+        let Some(files) = served_now(rt, self.alloc, &self.place, engine)? else {
             return Ok(());
         };
         self.watched.forget_places();
-        for FolderFile { path, owner } in files {
-            let changed = mark_of(self.rt, path.as_str());
-            self.watched.notice(path, owner, changed)?;
+        for MarkedFile { route, mark } in files {
+            let Route { path, to } = route;
+            self.watched.notice(path, to, mark)?;
         }
         Ok(())
     }

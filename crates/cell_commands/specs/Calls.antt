@@ -1,0 +1,105 @@
+-- How a call on the controller that a cell keeps ends. Nothing is known of what a cell behind a
+-- socket holds: what was read is some text.
+use Rattle.std.specs.Prelude.{◌≡◌, ◌⊎◌, ℕ, Bool, true, false, List, [], Option, Result, Ok}
+use Rattle.ticket_items.specs.declared.refusal.Refusal.{Refusal}
+use Rattle.jdf_words.specs.declared.call.Call.{Call}
+use Rattle.jdf_words.specs.declared.call.Call.TheVariants.{New, Order, Take, Show, Listing}
+use Rattle.jmf_message.specs.Decoded.{IsRefusalOf as IsUndecoded}
+use Rattle.streams.specs.Ends.{IsUnread}
+use Rattle.streams.specs.Streams.{IsInput, IsUntouched, Traffic}
+use Rattle.streams.specs.declared.refused.Refused.TheVariants.{NoConnection}
+use Rattle.streams.specs.declared.fault.Fault.{Fault}
+use Rattle.streams.specs.declared.fault.Fault.TheVariants.{Device}
+use Rattle.stored_state.specs.AnyStep.{IsHanded, IsNoOrder, IsOrdered}
+use Rattle.stored_state.specs.Opened.{AnyController}
+use Rattle.stored_state.specs.declared.addressee.Addressee.TheVariants.{Any}
+use Rattle.world_items.specs.declared.reply.Reply.{Reply}
+use Rattle.jdf_commands.specs.Caused.{GivesUpCaused}
+use Rattle.jdf_commands.specs.FileCommands.Beginning.{IsBeginning, IsNoBeginning}
+use Rattle.jdf_commands.specs.FileCommands.Commands.{IsMoment, Shows, Steps}
+use Rattle.jdf_commands.specs.FileCommands.Listing.{ListsOne}
+use Rattle.jdf_commands.specs.FileCommands.Notes.{GivesOutNoting, no_notes, notes_of_order}
+use Rattle.jdf_commands.specs.FileCommands.Step.{is_refused, step_lines}
+use Rattle.cell_commands.specs.Faults.{DoesNone, IsNotTold, IsUnloaded, IsUnsaved, fault_in}
+use Rattle.cell_commands.specs.Given.{GivesStep}
+use Rattle.cell_commands.specs.declared.cell_fault.CellFault.{CellFault}
+use Rattle.cell_commands.specs.declared.cell_fault.CellFault.TheVariants as cell_faults
+
+-- a text in memory holds itself
+abbrev pub text_held : List ℕ → List ℕ
+text_held text = text
+
+abbrev pub is_held : List ℕ → Bool
+is_held text = true
+
+abbrev pub has_no_place : List ℕ → List ℕ
+has_no_place text = []
+
+-- ---- what is written
+
+-- `order` and `take`: a step was given out, its lines are written, this tells whether it was
+-- refused, and what its reply and the state then have noted is noted
+pub record DoesStep (IsStep : Steps) (notes_behind : Result Reply Refusal → AnyController → List ℕ)
+    (input : Traffic) (text : List ℕ) (refused : Bool) (notes : List ℕ) : Type 0 where
+  pub reply : Result Reply Refusal
+  pub sent : Option (List ℕ)
+  pub given : GivesStep IsStep false [] [] input reply sent (notes_behind reply) notes
+  pub written : text ≡ step_lines reply sent
+  pub told : refused ≡ is_refused reply
+
+-- `new`: the input begins a controller, and nothing is written
+pub record DoesBegin (input : Traffic) (text : List ℕ) (refused : Bool) (notes : List ℕ)
+    : Type 0 where
+  pub bytes : List ℕ
+  pub is_input : IsInput input bytes
+  pub controller : AnyController
+  pub beginning : IsBeginning Any bytes controller
+  pub written : text ≡ []
+  pub accepted : refused ≡ false
+  pub noted : notes ≡ []
+
+-- what a call writes, whether something that was asked for was refused, and what is noted
+abbrev pub IsOutputInCell : Call → Traffic → List ℕ → Bool → List ℕ → Type 0
+IsOutputInCell (New file) input text refused notes = DoesBegin input text refused notes
+IsOutputInCell (Order file at) input text refused notes =
+    DoesStep (IsOrdered at) notes_of_order input text refused notes
+IsOutputInCell (Take file at) input text refused notes =
+    DoesStep (IsHanded at) no_notes input text refused notes
+IsOutputInCell (Show file picture at) input text refused notes =
+    IsUntouched input × (now : ℕ) × IsMoment at now × (held : List ℕ)
+    × Shows picture now is_held text_held has_no_place held text refused notes
+IsOutputInCell (Listing file at is_open is_json) input text refused notes =
+    IsUntouched input × (now : ℕ) × IsMoment at now × (held : List ℕ)
+    × ListsOne (record { is_open = is_open; is_json = is_json; now = now }) is_held text_held held
+    text refused notes
+IsOutputInCell call input text refused notes = ⊥
+
+-- ---- why nothing is
+
+-- why `new` begins none: something is there already or no answer came, and the input isn't read; or
+-- that isn't, or it begins none; or nothing is saved
+abbrev pub BeginsNone : Traffic → CellFault → Type 0
+BeginsNone input e =
+    (IsUntouched input × ((e ≡ cell_faults.Taken) ⊎ IsUnloaded e))
+    ⊎ (((fault : Fault) × IsUnread input fault × (e ≡ cell_faults.Call fault))
+    ⊎ ((bytes : List ℕ) × IsInput input bytes
+    × (((fault : Fault) × IsNoBeginning Any bytes fault × (e ≡ cell_faults.Call fault))
+    ⊎ ((e ≡ cell_faults.Taken) ⊎ IsUnsaved e))))
+
+-- why a call gives up. Another call than these is none of cells
+abbrev pub IsFaultInCell : Call → Traffic → CellFault → Type 0
+IsFaultInCell (New file) input e = BeginsNone input e
+IsFaultInCell (Order file at) input e = DoesNone IsNoOrder input e
+IsFaultInCell (Take file at) input e = DoesNone (λ bytes _. IsUndecoded bytes) input e
+IsFaultInCell (Show file picture at) input e = IsUntouched input × IsNotTold at e
+IsFaultInCell (Listing file at is_open is_json) input e = IsUntouched input × IsNotTold at e
+IsFaultInCell call input e = IsUntouched input × (e ≡ cell_faults.Call (Device NoConnection))
+
+-- how a call on the controller that etcd keeps ends: with what it writes and notes, or with the line
+-- and the status of why it gives up, with its cause where that is known
+abbrev pub EndsInCell : Call → Traffic → Traffic → Traffic → ℕ → Type 0
+EndsInCell call input output told status =
+    ((text : List ℕ) × (refused : Bool) × (notes : List ℕ)
+    × IsOutputInCell call input text refused notes
+    × GivesOutNoting text refused notes output told status)
+    ⊎ ((e : CellFault) × IsFaultInCell call input e × GivesUpCaused (fault_in e) output told status)
