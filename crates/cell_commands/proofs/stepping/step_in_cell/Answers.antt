@@ -1,0 +1,8 @@
+use Rattle.cell_commands.proofs.Stepped.{part_join, stepped_since}
+use Rattle.cell_commands.proofs.stepping.step_in_cell.Goals as goal
+
+pub returns-in-Ok-clause-stepped : goal.returns-in-Ok-clause-stepped
+returns-in-Ok-clause-stepped g c honest = stepped_since _ _ _ _ _ (c.loop.invariant honest).0 (c.in-Ok.ensures.stepped honest)
+
+pub loop-preserved : goal.loop-preserved
+loop-preserved g c honest = ?
