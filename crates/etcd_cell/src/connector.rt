@@ -1,9 +1,12 @@
-ghost use Rattle.std.specs.Prelude.{ℕ, List, Option, Some, None, IfOk, OnErr};
+ghost use Rattle.std.specs.Prelude.{◌≡◌, ℕ, List, Option, Some, None, IfOk, OnErr};
+ghost use Rattle.etcd_cell.specs.Cell.{unused};
 
+use crate::gateway::Gateway;
 use connections::{Until, connect_until};
 use std::io::{self, Read, Write};
 use std::net::Net;
 use std::time::{Clock, Duration};
+use streams::Counted;
 
 /// What makes connections (our own).
 pub trait Connector: Drop {
@@ -45,5 +48,20 @@ impl<'a, R: Net + Clock> Connector for SocketConnector<'a, R> {
 
     fn connection(&self, host: &str) -> io::Result<Until<'a, R, R::Stream>> {
         connect_until(self.rt, host, self.limit)
+    }
+}
+
+/// A connection to a gateway, over which nothing was asked yet.
+pub(crate) fn connection_to<C: Connector>(
+    connector: &C,
+    gateway: &Gateway,
+) -> io::Result<Counted<C::Stream>>
+    ensures ok { IfOk result (λ stream. C.connects connector.now gateway.now (Some stream.inner)
+        × (stream ≡ unused stream.inner)) }
+    ensures err { OnErr result (C.connects connector.now gateway.now None) }
+{
+    match connector.connection(gateway.authority()) {
+        Ok(stream) => Ok(Counted::new(stream)),
+        Err(error) => Err(error),
     }
 }

@@ -9,7 +9,7 @@ ghost use Rattle.etcd_cell.specs.Cell.{Learns, LearnsNothing, TellsHeld, unused}
 ghost use Rattle.keepers.specs.declared.keep_fault.KeepFault.TheVariants.{Failed};
 
 use crate::asking::{read_over, swap_over, touch_over};
-use crate::connector::Connector;
+use crate::connector::{Connector, connection_to};
 use crate::gateway::Gateway;
 use cells::{Cell, SwapResult, VersionedValue};
 use etcd_wire::NoAnswer;
@@ -65,10 +65,7 @@ impl<C: Connector> EtcdCell<C> {
             (Some stream.inner) × (stream ≡ unused stream.inner)) }
         ensures err { OnErr result (C.connects self.now.connector self.now.gateway None) }
     {
-        match self.connector.connection(self.gateway.authority()) {
-            Ok(stream) => Ok(Counted::new(stream)),
-            Err(error) => Err(error),
-        }
+        connection_to(&self.connector, &self.gateway)
     }
 
     /// What is found under the key.

@@ -9,8 +9,10 @@ mod connector;
 mod etcd_cell;
 mod exchange;
 mod gateway;
+mod listing;
 
 pub use asking::{read_over, swap_over, touch_over};
 pub use connector::{Connector, SocketConnector};
 pub use etcd_cell::{EtcdCell, MAX_VALUE_BYTES};
 pub use gateway::Gateway;
+pub use listing::{keys_in, list_over};

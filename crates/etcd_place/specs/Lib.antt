@@ -1,2 +1,4 @@
+pub mod Folder
 pub mod Named
+pub mod NamedFolder
 pub mod Place

@@ -12,7 +12,7 @@ use std::time::{Clock, Duration};
 /// Whether a text is to be a place in etcd: it begins with `etcd://`.
 pub fn is_etcd(text: &str) -> bool
     // Proved: A text that begins with `etcd://` is to be a place in etcd, also where it is none.
-    // By `EtcdPlace::of`.
+    // By `EtcdPlace::of`: `place`, `text`.
     ensures { result ≡ places.is_etcd text.now }
 {
     text.starts_with("etcd://")

@@ -1,5 +1,5 @@
 -- A decoder that is handed all that is left, over and over.
-use Rattle.std.proofs.Common.{◌≡◌, ◌≢◌, ℕ, ◌≤◌, ◌++◌, ◌-◌, List, [], length, map, take, drop, min, sym, ◌∙◌, refl, ap, subst, subst₂, arith}
+use Rattle.std.proofs.Common.{◌≡◌, ◌≢◌, ℕ, ◌≤◌, ◌++◌, ◌-◌, List, [], length, take, drop, sym, ◌∙◌, refl, ap, subst, subst₂, arith}
 use Rattle.std.proofs.lemmas.List.{append-nil, append_assoc, length-drop, length-map, length-take-le}
 use Rattle.std.proofs.Math.Seq.{take-length}
 use Rattle.std.specs.Prelude.{Ok}

@@ -1,2 +1,3 @@
-mod Decoding
-mod Told
+pub mod Decoding
+pub mod Listing
+pub mod Told

@@ -1,12 +1,12 @@
 -- What an answer tells.
-use Rattle.std.proofs.Common.{◌≡◌, ◌≢◌, ◌⊎◌, inl, inr, ⊎_elim, ℕ, Bool, true, false, List, refl, sym, ◌∙◌, ap, subst}
+use Rattle.std.proofs.Common.{◌≡◌, ◌⊎◌, ℕ, List, refl, sym, ◌∙◌, ap, subst}
 use Rattle.std.specs.Prelude.{Option, Some, None, Result, Ok, Err}
 use Rattle.std.specs.Str.{IsUtf8}
 use Rattle.json.specs.Find.{at}
-use Rattle.json.specs.Json.{Json, null, boolean, number, string, array, object, Items, item, no_items, document}
+use Rattle.json.specs.Json.{Json, null, boolean, number, string, array, object, item, no_items, document}
 use Rattle.cells.specs.declared.swapped.SwapResult.{SwapResult}
 use Rattle.cells.specs.declared.swapped.SwapResult.TheVariants.{Made, Other, Unknown}
-use Rattle.etcd_wire.specs.Answer.{Answers, DidNot, Succeeded, Tells, TellsSwap}
+use Rattle.etcd_wire.specs.Answer.{Answers, DidNot, Succeeded, TellsSwap}
 use Rattle.etcd_wire.specs.Request.{one}
 use Rattle.etcd_wire.specs.declared.no_answer.NoAnswer.{NoAnswer}
 

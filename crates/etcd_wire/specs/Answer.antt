@@ -1,9 +1,11 @@
 -- What etcd answers: what is zero, false or empty has no member. Only a 200 with a revision in its
 -- header tells anything.
-use Rattle.std.specs.Prelude.{◌≡◌, ◌⊎◌, ◌<◌, ◌^◌, [], ℕ, List, true, false, Option, Some, None, codes, decimal}
+use Rattle.std.specs.Prelude.{◌≡◌, ◌⊎◌, ◌<◌, ◌^◌, [], ◌∷◌, ℕ, List, true, false, Option, Some, None, ⊤}
+use Rattle.std.specs.Prelude.{codes, decimal}
 use Rattle.std.specs.Str.{IsUtf8}
 use Rattle.json.specs.Find.{get}
-use Rattle.json.specs.Json.{Json, boolean, string, document}
+use Rattle.json.specs.Json.{Json, array, boolean, string, document}
+use Rattle.json.specs.Value.{items_of}
 use Rattle.base64.specs.GeneralPurpose.{IsBytes}
 use Rattle.cells.specs.Chain.{Version}
 use Rattle.cells.specs.declared.swapped.SwapResult.{SwapResult}
@@ -36,6 +38,29 @@ abbrev pub IsFound : Json → Option Version → Type 0
 IsFound j None = get (codes "kvs") j ≡ None
 IsFound j (Some v) =
     (kv : Json) × (get (codes "kvs") j ≡ Some (one kv)) × IsVersion kv v
+
+-- a key with the revision of its value
+pub record KeyVersion : Type 0 where
+  pub key : List ℕ
+  pub revision : ℕ
+
+abbrev pub IsKeyVersion : Json → KeyVersion → Type 0
+IsKeyVersion j k =
+    IsBytes k.key × (get (codes "key") j ≡ Some (string (encoded k.key)))
+    × HasNumber (codes "mod_revision") j k.revision
+
+-- each in its turn
+abbrev pub AreKeyVersions : List Json → List KeyVersion → Type 0
+AreKeyVersions [] [] = ⊤
+AreKeyVersions (j ∷ js) (k ∷ ks) = IsKeyVersion j k × AreKeyVersions js ks
+AreKeyVersions js ks = ⊥
+
+-- the keys that were found, in their order
+abbrev pub IsListing : Json → List KeyVersion → Type 0
+IsListing j ks =
+    ((get (codes "kvs") j ≡ None) × (ks ≡ []))
+    ⊎ ((kvs : List Json) × (get (codes "kvs") j ≡ Some (array (items_of kvs)))
+    × AreKeyVersions kvs ks)
 
 -- a status and a body tell this of the revision and the JSON of an answer
 pub record Tells (status : ℕ) (body : List ℕ) (P : ℕ → Json → Type 0) : Type 0 where

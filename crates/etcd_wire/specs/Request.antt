@@ -1,5 +1,5 @@
 -- What etcd is asked by its JSON gateway: bytes are texts in base64, and numbers texts in decimal.
-use Rattle.std.specs.Prelude.{ℕ, List, [], true, codes, decimal, if◌then◌else◌, ◌==◌}
+use Rattle.std.specs.Prelude.{ℕ, List, [], ◌++◌, true, codes, decimal, if◌then◌else◌, ◌==◌}
 use Rattle.base64.specs.Engines.{standard}
 use Rattle.base64.specs.GeneralPurpose.{encode_of}
 use Rattle.json.specs.Json.{Json, boolean, string, array, object, item, no_items, member, no_members}
@@ -34,6 +34,12 @@ triple a x b y c z = object (member a x (member b y (member c z no_members)))
 abbrev pub range_at : List ℕ → Json
 range_at key = single (codes "key") (string key)
 
+-- the keys from the first on and before the end, without what is under them
+abbrev pub keys_between : List ℕ → List ℕ → Json
+keys_between first end =
+    triple (codes "key") (string first) (codes "range_end") (string end)
+    (codes "keys_only") (boolean true)
+
 -- what is under the key has this revision, which is 0 where nothing is
 abbrev pub comparison : List ℕ → List ℕ → Json
 comparison key revision =
@@ -65,6 +71,11 @@ transaction key revision success =
 
 abbrev pub range : List ℕ → Json
 range key = range_at (encoded key)
+
+-- the keys of a folder, which begin with it and a `/`. Behind them all stands `0`, the byte behind
+-- that
+abbrev pub listing : List ℕ → Json
+listing folder = keys_between (encoded (folder ++ codes "/")) (encoded (folder ++ codes "0"))
 
 abbrev pub swap : List ℕ → ℕ → List ℕ → Json
 swap key revision bytes =

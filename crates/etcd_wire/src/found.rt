@@ -19,7 +19,7 @@ use json::{Scratch, Value};
 use std::alloc::Global;
 
 /// The bytes whose text this is.
-fn decoded(alloc: Global, text: &str) -> Result<Vec<u8>, NoAnswer>
+pub(crate) fn decoded(alloc: Global, text: &str) -> Result<Vec<u8>, NoAnswer>
     ensures ok { IfOk result (λ v. IsBytes v.items × (text.now ≡ encoded v.items)) }
     ensures unknown { result ≡ Err Unknown →
         (bytes : List ℕ) → IsBytes bytes → text.now ≡ encoded bytes → ⊥ }

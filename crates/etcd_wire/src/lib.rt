@@ -7,6 +7,8 @@
 
 mod answer;
 mod found;
+mod key_version;
+mod listed;
 mod no_answer;
 mod parts;
 mod request;
@@ -14,6 +16,8 @@ mod response;
 
 pub use answer::swapped_of;
 pub use found::held_of;
+pub use key_version::KeyVersion;
+pub use listed::listed_of;
 pub use no_answer::NoAnswer;
-pub use request::{range_request, swap_request, touch_request};
+pub use request::{listing_request, range_request, swap_request, touch_request};
 pub use response::{Response, response_in};

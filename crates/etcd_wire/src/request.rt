@@ -1,6 +1,6 @@
 //! The bodies of requests.
 
-ghost use Rattle.std.specs.Prelude.{◌≡◌, ◌≤◌, Some, IfOk};
+ghost use Rattle.std.specs.Prelude.{◌≡◌, ◌≤◌, ◌∷◌, ◌++◌, [], Some, IfOk};
 ghost use Rattle.json.specs.Json.{document};
 ghost use Rattle.json.specs.Tree.{HasNumbers, depth};
 ghost use Rattle.json.specs.Value.{value_view};
@@ -19,13 +19,61 @@ pub fn range_request(alloc: Global, key: &[u8]) -> Result<Vec<u8>, AllocError>
     // read again as that. Of a swap and a touch that has one comparison, of the revision under the
     // key with the one that is given, one put under that key where it holds, and a look under it
     // where it doesn't. A touch puts what is there again, and of revision 0 no bytes.
-    // By `text`, `again`; `swap_request`, `touch_request`: `text`, `again`.
+    // By `text`, `again`; `listing_request`, `swap_request`, `touch_request`: `text`, `again`.
     ensures text { IfOk result (λ body. body.items ≡ text_of (form.range key.now)) }
     ensures again { IfOk result (λ body. document body.items ≡ Some (form.range key.now)) }
 {
     let key = STANDARD.encode(alloc, key)?;
     let range = single(alloc, "key", Value::String(key.as_str()))?;
     to_vec(alloc, &range)
+}
+
+/// The body that asks for the keys of a folder, without what is under them: those that begin with
+/// these bytes and a `/`.
+pub fn listing_request(alloc: Global, folder: &[u8]) -> Result<Vec<u8>, AllocError>
+    ensures text { IfOk result (λ body. body.items ≡ text_of (form.listing folder.now)) }
+    ensures again { IfOk result (λ body. document body.items ≡ Some (form.listing folder.now)) }
+{
+    let first = with_byte(alloc, folder, b'/')?;
+    let end = with_byte(alloc, folder, b'0')?;
+    let first = STANDARD.encode(alloc, first.as_slice())?;
+    let end = STANDARD.encode(alloc, end.as_slice())?;
+    listing_body(alloc, first.as_str(), end.as_str())
+}
+
+/// The body that asks for the keys from the first on and before the end, by their texts.
+fn listing_body<'a>(alloc: Global, first: &'a str, end: &'a str) -> Result<Vec<u8>, AllocError>
+    ensures text { IfOk result (λ body.
+        body.items ≡ text_of (form.keys_between first.now end.now)) }
+    ensures again { IfOk result (λ body.
+        document body.items ≡ Some (form.keys_between first.now end.now)) }
+{
+    let listing = keys_between(alloc, first, end)?;
+    to_vec(alloc, &listing)
+}
+
+/// The keys from the first on and before the end, without what is under them.
+fn keys_between<'a>(alloc: Global, first: &'a str, end: &'a str) -> Result<Value<'a>, AllocError>
+    ensures value { IfOk result (λ v. value_view v ≡ form.keys_between first.now end.now) }
+    ensures numbers { IfOk result (λ v. HasNumbers (value_view v)) }
+    ensures depth { IfOk result (λ v. depth (value_view v) ≤ 2) }
+{
+    triple(
+        alloc,
+        ("key", Value::String(first)),
+        ("range_end", Value::String(end)),
+        ("keys_only", Value::Bool(true)),
+    )
+}
+
+/// These bytes, and one more.
+fn with_byte(alloc: Global, bytes: &[u8], last: u8) -> Result<Vec<u8>, AllocError>
+    ensures { IfOk result (λ v. v.items ≡ bytes.now ++ last ∷ []) }
+{
+    let mut longer = Vec::with_capacity(alloc, bytes.len())?;
+    longer.extend_from_slice(bytes)?;
+    longer.push(last)?;
+    Ok(longer)
 }
 
 /// The body that asks for these bytes under a key, in place of those of this revision. Of revision

@@ -10,13 +10,15 @@ ghost use Rattle.jdf_server.specs.Steps.{StepsLineTo, StepsThere, WaitsOn};
 ghost use Rattle.std.specs.Option.{option_map};
 
 use crate::entry::Entry;
+use crate::etcd_folder::{begin_at, is_missing_at};
+use crate::etcd_steps::step_at;
 use crate::hearing::hear_all;
 use crate::line::Line;
 use crate::own::Own;
 use crate::post::Post;
 use crate::route::{Route, route_of};
 use crate::server::Server;
-use crate::stepping::{StepsResult, begin_in_file, is_missing, step_in_file};
+use crate::stepping::StepsResult;
 use controller::{Body, Message};
 use http_edge::Received;
 use http_message::lone_field;
@@ -182,7 +184,7 @@ impl<'a, R: Locks + Net + Clock, F: Write + Drop> Server<'a, R, F> {
     ) -> Result<(), AllocError>
         ensures { OnOk result (StandsOrMisses waiting message self.old self.new) }
     {
-        match route_of(self.rt, self.alloc, &self.place, &message)? {
+        match route_of(self.rt, self.alloc, &self.place, &message, &mut self.engine)? {
             Some(route) => self.stand(route, waiting, Coming::Message(message)),
             None => self.clients.miss(waiting),
         }
@@ -242,7 +244,7 @@ impl<'a, R: Locks + Net + Clock, F: Write + Drop> Server<'a, R, F> {
     pub(crate) fn is_missing(&self, path: &str) -> bool {
         match self.place {
             Place::File(_) => false,
-            Place::Folder(_) => is_missing(self.rt, path),
+            Place::Folder(_) => is_missing_at(self.rt, self.alloc, path, self.engine),
         }
     }
 
@@ -255,7 +257,7 @@ impl<'a, R: Locks + Net + Clock, F: Write + Drop> Server<'a, R, F> {
         }
         match to {
             Owner::WorkerOf(name, master) => {
-                begin_in_file(self.rt, self.alloc, path, name, master)
+                begin_at(self.rt, self.alloc, path, name, master)
             }
             Owner::Any | Owner::Named(_) => false,
         }
@@ -336,7 +338,7 @@ impl<'a, R: Locks + Net + Clock, F: Write + Drop> Server<'a, R, F> {
         } = line;
         let addressee = to.as_addressee();
         let mut journal = FileJournal::at(self.rt, self.journal);
-        let stepped = step_in_file(
+        let stepped = step_at(
             self.rt,
             self.alloc,
             path.as_str(),
@@ -344,6 +346,7 @@ impl<'a, R: Locks + Net + Clock, F: Write + Drop> Server<'a, R, F> {
             addressee,
             errands,
             self.clients.now,
+            &mut self.engine,
             &mut journal,
         )?;
         self.clients.tell_missed(&journal);

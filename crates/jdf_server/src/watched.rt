@@ -1,10 +1,11 @@
 //! The controllers that are served, as their files were looked at last.
 
+use crate::mark::Mark;
+use crate::route::Route;
 use indexmap::IndexMap;
 use job_list::{Work, push_entries, push_spawns};
 use shop_folder::Owner;
 use std::alloc::{AllocError, Global};
-use std::time::SystemTime;
 use stored_state::AnyController;
 use ticket_tree::Id;
 
@@ -48,13 +49,20 @@ impl ControllerView {
 #[derive(Drop)]
 pub(crate) struct Seat {
     pub owner: Owner,
-    /// When its file was changed, as it was looked at last.
-    pub seen_at: Option<SystemTime>,
+    /// What told of it when it was looked at last.
+    pub seen_at: Option<Mark>,
     /// Whether its file was there then.
     pub is_there: bool,
     /// What a page tells of it; nothing where its file holds no controller of its name, or wasn't
     /// read yet.
     pub shown: Option<ControllerView>,
+}
+
+/// A controller where it lies, and what tells of it now (our own).
+#[derive(Drop)]
+pub(crate) struct MarkedFile {
+    pub route: Route,
+    pub mark: Option<Mark>,
 }
 
 /// All of them.
@@ -135,7 +143,7 @@ impl ControllerViews {
         &mut self,
         path: String,
         owner: Owner,
-        changed: Option<SystemTime>,
+        changed: Option<Mark>,
     ) -> Result<(), AllocError> {
         if let Some(number) = self.controllers.get_index_of(path.as_str()) {
             drop(owner);
@@ -155,7 +163,7 @@ impl ControllerViews {
     fn notice_again(
         &mut self,
         number: usize,
-        changed: Option<SystemTime>,
+        changed: Option<Mark>,
     ) -> Result<(), AllocError> {
         let Some(seat) = self.controllers.get_index_mut(number) else {
             return Ok(());

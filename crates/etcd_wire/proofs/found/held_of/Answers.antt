@@ -1,4 +1,4 @@
-use Rattle.std.proofs.Common.{◌≡◌, refl, subst}
+use Rattle.std.proofs.Common.{refl, subst}
 use Rattle.json.specs.Json.{Json, document}
 use Rattle.etcd_wire.specs.Answer.{Answers}
 use Rattle.etcd_wire.proofs.Told.{one_json}

@@ -1,4 +1,4 @@
-use Rattle.std.proofs.Common.{◌≡◌, ◌∙◌, ap, sym, subst, subst₂, ◌++◌}
+use Rattle.std.proofs.Common.{◌∙◌, ap, sym, subst, subst₂, ◌++◌}
 use Rattle.http1.specs.declared.decode.Decoded.{Decoded}
 use Rattle.http1.specs.Decoder.{Decodes, decoder_for}
 use Rattle.etcd_wire.specs.Response.{limits}

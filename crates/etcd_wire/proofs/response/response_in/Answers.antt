@@ -1,4 +1,4 @@
-use Rattle.std.proofs.Common.{◌≡◌, refl, ap, subst, List, ℕ}
+use Rattle.std.proofs.Common.{refl, ap, subst, List, ℕ}
 use Rattle.std.specs.Prelude.{Err}
 use Rattle.etcd_wire.specs.declared.no_answer.NoAnswer.{NoAnswer}
 use Rattle.etcd_wire.proofs.Decoding.{has_no_response, to_end}
