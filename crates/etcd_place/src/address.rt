@@ -36,7 +36,7 @@ fn is_port(text: &str) -> bool
 fn is_port_behind_colon(text: &str) -> bool
     ensures { result ≡ places.is_port_behind_colon text.now }
 {
-    match text.strip_prefix(":") {
+    match text.strip_prefix(':') {
         Some(port) => is_port(port),
         None => false,
     }
@@ -66,7 +66,7 @@ fn is_bracketed_address(text: &str) -> bool
 fn is_address(text: &str) -> bool
     ensures { result ≡ places.is_address text.now }
 {
-    match text.strip_prefix("[") {
+    match text.strip_prefix('[') {
         Some(rest) => is_bracketed_address(rest),
         None => is_named_address(text),
     }

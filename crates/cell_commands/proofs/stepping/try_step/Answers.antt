@@ -12,3 +12,6 @@ returns-in-Ok-clause-stepped g c honest =
 
 pub returns-in-Ok-clause-grows : goal.returns-in-Ok-clause-grows
 returns-in-Ok-clause-grows g c honest = part_join _ _ _ (part_of _ _ _ (c.load.ensures.sends honest)) (part_of _ _ _ (c.save.ensures.sends honest))
+
+pub returns-clause-grows : goal.returns-clause-grows
+returns-clause-grows g c honest = part_join _ _ _ (part_of _ _ _ (c.load.ensures.sends honest)) (part_of _ _ _ (c.save.ensures.sends honest))
