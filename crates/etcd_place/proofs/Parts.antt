@@ -11,21 +11,7 @@ use Rattle.std.proofs.lemmas.Str.Pattern.{starts_text}
 use Rattle.etcd_place.specs.Place.{Named, are_segments, etcd_place_in, has_slash, front_of, rest_of, is_address, is_bracketed_address, is_etcd, is_gateway, is_key_name, is_named_address, is_port, is_port_behind_colon, place_of}
 use Rattle.shop_folder.specs.Names.{is_file_name}
 
--- what stands behind a character that isn't there
-after_none : (p : ℕ → Bool) (xs : List ℕ) → position_or_len p xs ≡ length xs → after_first p xs ≡ []
-after_none p xs is = ap (λ n. drop (n + 1) xs) is ∙ drop_all (length xs + 1) xs (omega arith)
-
-not_right : (a b : Bool) → b ≡ false → false ≡ (a && b)
-not_right true b is = sym is
-not_right false b is = refl
-
 -- ---- an address
-
-pub named_none : (text : List ℕ) → position_or_len (λ c. c == 58) text ≡ length text → false ≡ is_named_address text
-named_none text is = not_right (not (length (before_first (λ c. c == 58) text) == 0)) _ (ap is_port (after_none (λ c. c == 58) text is))
-
-pub bracketed_none : (text : List ℕ) → position_or_len (λ c. c == 93) text ≡ length text → false ≡ is_bracketed_address text
-bracketed_none text is = not_right (not (length (before_first (λ c. c == 93) text) == 0)) _ (ap is_port_behind_colon (after_none (λ c. c == 93) text is))
 
 colon_not : (b : Bool) (c : ℕ) (cs : List ℕ) → (c == 58) ≡ b → ((rest : List ℕ) → c ∷ cs ≢ 58 ∷ rest) → false ≡ (b && is_port cs)
 colon_not true c cs is lacks = absurd (lacks cs (ap (λ x. x ∷ cs) ((Decides-eqb c 58).0 is)))
@@ -35,9 +21,6 @@ pub colon_none : (text : List ℕ) → ((rest : List ℕ) → text ≢ 58 ∷ re
 colon_none [] lacks = refl
 colon_none (c ∷ cs) lacks = colon_not (c == 58) c cs refl lacks
 
-pub colon_some : (text port : List ℕ) → text ≡ 58 ∷ port → is_port port ≡ is_port_behind_colon text
-colon_some text port is = sym (ap is_port_behind_colon is)
-
 bracket_not : (b : Bool) (c : ℕ) (cs : List ℕ) → (c == 91) ≡ b → ((rest : List ℕ) → c ∷ cs ≢ 91 ∷ rest) → is_named_address (c ∷ cs) ≡ cond b (is_bracketed_address cs) (is_named_address (c ∷ cs))
 bracket_not true c cs is lacks = absurd (lacks cs (ap (λ x. x ∷ cs) ((Decides-eqb c 91).0 is)))
 bracket_not false c cs is lacks = refl
@@ -45,9 +28,6 @@ bracket_not false c cs is lacks = refl
 pub bracket_none : (text : List ℕ) → ((rest : List ℕ) → text ≢ 91 ∷ rest) → is_named_address text ≡ is_address text
 bracket_none [] lacks = refl
 bracket_none (c ∷ cs) lacks = bracket_not (c == 91) c cs refl lacks
-
-pub bracket_some : (text rest : List ℕ) → text ≡ 91 ∷ rest → is_bracketed_address rest ≡ is_address text
-bracket_some text rest is = sym (ap is_address is)
 
 -- ---- a name
 

@@ -1,7 +1,6 @@
 ghost use Rattle.std.specs.Prelude.{◌≡◌, true};
 ghost use Rattle.http_message.specs.Texts.{is_word};
 ghost use Rattle.etcd_place.specs.Folder as folders;
-ghost use Rattle.etcd_place.specs.NamedFolder.{named_folder};
 ghost use Rattle.etcd_place.specs.Place as places;
 
 use crate::address::is_gateway;
@@ -24,6 +23,7 @@ pub struct EtcdFolder<'a> {
 
 impl<'a> EtcdFolder<'a> {
     ghost use Rattle.std.specs.Prelude.{option_map, IfOk};
+    ghost use Rattle.etcd_place.specs.NamedFolder.{named_folder};
 
     /// The folder that a text is, if it is one: behind `etcd://` HOST:PORT, and behind the next
     /// `/`, if there is one, one to eight names without dots, with `/` between them.

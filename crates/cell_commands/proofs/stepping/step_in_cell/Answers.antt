@@ -6,4 +6,4 @@ returns-in-Ok-clause-stepped g c honest = stepped_since _ _ _ _ _ (c.loop.invari
 
 pub loop-preserved : goal.loop-preserved
 loop-preserved g c honest =
-    (part_join _ _ _ (c.loop.invariant honest).0 (c.try_step.ensures.grows honest), λ s may. (c.loop.invariant honest).1 s (c.try_step.ensures.overtaken honest c.in-Err-Overtaken.is s may))
+    (part_join _ _ _ (c.loop.invariant honest).0 (c.try_step.ensures.grows honest), λ s may. (c.loop.invariant honest).1 s (c.try_step.ensures.overtaken honest ? s may))
