@@ -1,5 +1,6 @@
 ghost use Rattle.std.specs.Prelude.{◌≡◌};
 ghost use Rattle.cell_commands.specs.Faults as faults;
+ghost use Rattle.cell_commands.specs.declared.cell_fault.CellFault.TheVariants.{Call};
 ghost use Rattle.streams.specs.declared.refused.Refused.TheVariants.{Core};
 ghost use Rattle.streams.specs.declared.fault.Fault.TheVariants.{Input};
 ghost use Rattle.ticket_items.specs.declared.refusal.Refusal.TheVariants.{Memory};
@@ -43,7 +44,7 @@ impl CellFault {
 }
 
 impl From<Fault> for CellFault {
-    ghost from_gives = { λ fault e. e ≡ CellFault.Call fault };
+    ghost from_gives = { λ fault e. e ≡ Call fault };
 
     fn from(fault: Fault) -> CellFault {
         CellFault::Call(fault)
@@ -51,7 +52,7 @@ impl From<Fault> for CellFault {
 }
 
 impl From<AllocError> for CellFault {
-    ghost from_gives = { λ _ e. e ≡ CellFault.Call (Input (Core Memory)) };
+    ghost from_gives = { λ _ e. e ≡ Call (Input (Core Memory)) };
 
     fn from(_error: AllocError) -> CellFault {
         CellFault::Call(Fault::Input(Refused::Core(Refusal::Memory)))

@@ -1,6 +1,9 @@
 //! The calls of the program on a controller that etcd keeps.
 
-ghost use Rattle.std.specs.Prelude.{◌≡◌};
+ghost use Rattle.std.specs.Prelude.{◌≡◌, IfErr, IfOk};
+ghost use Rattle.cell_commands.specs.Calls.{EndsInCell, IsFaultInCell, IsOutputInCell};
+ghost use Rattle.cell_commands.specs.Faults.{fault_in};
+ghost use Rattle.streams.specs.Streams.{traffic};
 
 use crate::cell_fault::CellFault;
 use crate::outputs::output_in_cell;
@@ -76,7 +79,9 @@ fn caused_by<R: Net + Clock>(
     alloc: Global,
     place: EtcdPlace<'_>,
     fault: CellFault,
-) -> CausedFault {
+) -> CausedFault
+    ensures { result.fault ≡ fault_in fault }
+{
     match cause_of(rt, alloc, place, fault) {
         Ok(cause) if !cause.is_empty() => CausedFault::at(alloc, fault.fault(), cause.as_str()),
         _ => CausedFault::without_cause(fault.fault()),
@@ -91,9 +96,18 @@ fn output_at<R: Locks + Net + Clock, I: Read, J: Journal>(
     call: Call<'_>,
     reader: &mut Counted<I>,
     journal: &mut J,
-) -> Result<OutputWithNotes, CellFault> {
+) -> Result<OutputWithNotes, CellFault>
+    ensures ok { IfOk result (λ noted. IsOutputInCell call.entry
+        (traffic I.remaining reader.old reader.new)
+        noted.output.text.items noted.output.refused noted.notes.items) }
+    ensures refused { IfErr result
+        (IsFaultInCell call.entry (traffic I.remaining reader.old reader.new)) }
+{
     let by = typist(rt, alloc, journal);
-    let cell = place.cell(rt, alloc, Duration::from_secs(EXCHANGE_SECONDS))?;
+    let cell = match place.cell(rt, alloc, Duration::from_secs(EXCHANGE_SECONDS)) {
+        Ok(cell) => cell,
+        Err(AllocError) => return Err(CellFault::from(AllocError)),
+    };
     output_in_cell(rt, alloc, cell, call, text_of(&by), reader, journal)
 }
 
@@ -110,7 +124,17 @@ pub fn run_in_cell<R: Locks + Net + Clock, I: Read, W: Write, F: Write, J: Journ
     writer: &mut Counted<W>,
     faults: &mut Counted<F>,
     journal: &mut J,
-) -> u8 {
+) -> u8
+    // Proved: A call on a controller that etcd keeps ends with what its command writes, at its
+    // time, or with the line and the status of a fault. A text that begins with `etcd://` and is
+    // no place there has the status of words that stand for no call.
+    // By `refuse_place`.
+    // Not proved: what stands behind the refusal of a load or a save, and that what etcd gave was
+    // held.
+    ensures { EndsInCell call.now (traffic I.remaining reader.old reader.new)
+        (traffic W.contents writer.old writer.new)
+        (traffic F.contents faults.old faults.new) result }
+{
     match output_at(rt, alloc, place, *call, reader, journal) {
         Ok(noted) => finish_noting(Ok(noted), writer, faults),
         Err(fault) => give_up_caused(alloc, caused_by(rt, alloc, place, fault), faults),

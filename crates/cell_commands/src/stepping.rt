@@ -127,11 +127,8 @@ pub fn step_in_cell<C: Cell, S: Step>(
     for _ in 0..TRIES {
         match try_step(alloc, keep, step) {
             Ok(given) => return Ok(given),
-            Err(fault) => {
-                if fault != CellFault::Overtaken {
-                    return Err(fault);
-                }
-            }
+            Err(CellFault::Overtaken) => {}
+            Err(fault) => return Err(fault),
         }
     }
     Err(CellFault::Overtaken)
