@@ -2,14 +2,14 @@
 """A shop whose controllers are kept in etcd, on three machines of which any may be lost:
 cluster.py PROGRAM [--seconds N] [--seed N] [--figures]
 
-Three nodes of etcd and, beside each, a server for each controller; before them a proxy that picks
-a server, and loses, doubles and holds up what comes. Days follow one another for so many seconds,
+Three nodes of etcd and, beside each, a server of all controllers; before them a proxy that picks a
+server, and loses, doubles and holds up what comes. Days follow one another for so many seconds,
 as those of chaos.py, while nodes and servers are killed or stopped and started or continued at
 random, and orders are given at a node that is picked at random. In the end the ticket is that of a
 quiet day, each part is merged once, and what was held under each key is one chain of steps: no
 audit and no spawn of one value isn't in the next. Then lost answers that land late, four writers on
-one controller, and a node without the others: what is told, and that it goes on. The last lines say
-how much went on.
+one controller, a node without the others and a quota that is used up: what is told, and that it
+goes on. The last lines say how much went on.
 """
 import argparse
 import base64
@@ -46,7 +46,8 @@ AWAY = ("Refused 57 SaveFailed", "Refused 59 LoadFailed")
 class Node:
     """A node of a cluster, in a folder of its own."""
 
-    def __init__(self, number, clients, peers, folder):
+    def __init__(self, number, clients, peers, folder, options):
+        self.options = options
         self.name, self.client, self.peer = f"n{number}", clients[number], peers[number]
         self.data = os.path.join(folder, self.name)
         self.cluster = ",".join(f"n{one}=http://127.0.0.1:{port}" for one, port in enumerate(peers))
@@ -57,7 +58,8 @@ class Node:
         words = {"name": self.name, "data-dir": self.data, "listen-client-urls": client,
                  "advertise-client-urls": client, "listen-peer-urls": peer,
                  "initial-advertise-peer-urls": peer, "initial-cluster": self.cluster,
-                 "snapshot-count": "1000", "heartbeat-interval": "50", "election-timeout": "500"}
+                 "snapshot-count": "1000", "heartbeat-interval": "50", "election-timeout": "500",
+                 **self.options}
         with open(self.data + ".log", "ab") as log:
             self.process = subprocess.Popen(["etcd", *[f"--{word}={value}" for word, value in
                                                        words.items()]], stdout=log, stderr=log)
@@ -82,11 +84,12 @@ def key_of(place):
 
 
 @contextlib.contextmanager
-def cluster(count=3):
+def cluster(count=3, **options):
     """So many nodes that have a leader."""
     clients, peers = ([free_port() for _ in range(count)] for _ in range(2))
     folder = tempfile.mkdtemp(dir=".")
-    nodes = [Node(number, clients, peers, folder) for number in range(count)]
+    words = {word.replace("_", "-"): value for word, value in options.items()}
+    nodes = [Node(number, clients, peers, folder, words) for number in range(count)]
     try:
         until = time.monotonic() + 60
         while not all(is_well(node) for node in nodes):
@@ -132,12 +135,12 @@ def history(node, place):
 
 
 class Server(processes.Served):
-    """A server of a controller beside a node."""
+    """A server of a controller beside a node, or of a folder of them."""
 
     def __init__(self, node, place, *options):
         self.url_of_place = f"etcd://127.0.0.1:{node.client}/{place}"
         self.node, self.place = node, place
-        super().__init__(f"{node.name}-{os.path.basename(place)}", *options)
+        super().__init__(f"{node.name}-{place.strip('/').replace('/', '-')}", *options)
 
     def command(self):
         return [PROGRAM, "serve", self.url_of_place, "--listen", f"127.0.0.1:{self.port}",
@@ -162,7 +165,7 @@ class Server(processes.Served):
 
 
 class Servers:
-    """The servers of one controller, of which each connection has one."""
+    """The servers of the machines, of which each connection has one."""
 
     def __init__(self, servers, chance):
         self.servers, self.chance = servers, chance
@@ -191,11 +194,11 @@ class Day(chaos.Day):
         for name in ("press", "bind"):
             self.begin(name, {"Master": "mis", "Worker": name})
         start = time.monotonic()
-        self.served = {name: Servers([Server(node, self.place(name), "--limit", "10")
-                                      for node in nodes], self.chance) for name in NAMES}
-        self.to_start = (time.monotonic() - start) / 9
-        self.proxies = {name: chaos.Proxy(served, self.chance, counts)
-                        for name, served in self.served.items()}
+        servers = Servers([Server(node, self.folder + "/", "--limit", "10") for node in nodes],
+                          self.chance)
+        self.served = {"machines": servers}
+        self.to_start = (time.monotonic() - start) / 3
+        self.proxies = {name: chaos.Proxy(servers, self.chance, counts) for name in NAMES}
 
     def place(self, name):
         return f"{self.folder}/{name}"
@@ -212,12 +215,11 @@ class Day(chaos.Day):
         """Kills or stops a node or a server now and then, and starts it again or lets it go on, so
         that two nodes of three are there at any moment."""
         while not self.is_over:
-            time.sleep(0.5 + 2 * self.chance.random())
+            time.sleep(0.2 + self.chance.random())
             if self.chance.random() < 0.4:
                 one, word = self.chance.choice(self.nodes), "nodes"
             else:
-                servers = self.served[self.chance.choice(NAMES)].servers
-                one, word = self.chance.choice(servers), "servers"
+                one, word = self.chance.choice(self.served["machines"].servers), "servers"
             if self.chance.random() < 0.5:
                 self.counts[word + " stopped"] += 1
                 one.send_signal(signal.SIGSTOP)
@@ -505,11 +507,41 @@ def figures():
 CASES = (four_writers, without_the_others, a_lost_swap_lands_late, what_is_no_place)
 
 
+def etcdctl(node, *words):
+    ran = subprocess.run(["etcdctl", f"--endpoints=127.0.0.1:{node.client}", *words],
+                         env={**os.environ, "ETCDCTL_API": "3"}, capture_output=True, check=False)
+    wants((ran.returncode, ran.stderr.decode() if ran.returncode else ""), (0, ""))
+    return ran.stdout.decode()
+
+
+def a_quota_that_is_used_up(node):
+    """Where there is no room no step is made and all is shown; then the lines of the document help."""
+    url = begun(node, "full")
+    filler = base64.b64encode(b"x" * 1_000_000).decode()
+    until = time.monotonic() + 60
+    with contextlib.suppress(urllib.error.HTTPError):
+        while time.monotonic() < until:
+            node.asks("put", key=base64.b64encode(b"filler").decode(), value=filler)
+    status, text, told = run("order", url, "--at", AT, given=attribute("A"))
+    wants((status, text), (4, ""))
+    assert told.startswith("Refused 57 SaveFailed"), told
+    wants(names_of(url), [])
+    revision = node.asks("range", key=key_of("full"))["header"]["revision"]
+    etcdctl(node, "compact", revision)
+    etcdctl(node, "defrag")
+    etcdctl(node, "alarm", "disarm")
+    wants(run("order", url, "--at", AT, given=attribute("B")), (0, "Edited\n", ""))
+    wants(names_of(url), ["B"])
+    return "a quota that is used up: no step is made, all is shown, and it goes on"
+
+
 def cases():
     with cluster() as nodes:
         for case in CASES:
             settles(nodes)
             print("  " + case(nodes), flush=True)
+    with cluster(1, quota_backend_bytes="16777216") as nodes:
+        print("  " + a_quota_that_is_used_up(nodes[0]), flush=True)
 
 
 def arguments():
