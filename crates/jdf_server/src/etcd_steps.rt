@@ -167,6 +167,12 @@ pub(crate) fn step_own_at<R: Locks + Net + Clock, J: Journal>(
     step_own_in_file(rt, alloc, path, last, to, all, journal)
 }
 
+/// What a keeper holds, if it gives that. The keeper is let go.
+fn loaded<K: Keep>(keep: K) -> Option<Vec<u8>> {
+    let mut keep = keep;
+    keep.load().ok()
+}
+
 /// The value under the key that a path names, if the engine gives it.
 fn value_at<R: Net + Clock>(
     rt: &R,
@@ -175,11 +181,11 @@ fn value_at<R: Net + Clock>(
     engine: &mut Engine,
 ) -> Option<Vec<u8>> {
     match keep_for(rt, alloc, path, engine) {
-        Ok(Some(mut keep)) => {
+        Ok(Some(keep)) => {
             let asked = Instant::now(rt).ok();
-            let loaded = keep.load().ok();
-            engine.note(rt, asked, loaded.is_none());
-            loaded
+            let value = loaded(keep);
+            engine.note(rt, asked, value.is_none());
+            value
         }
         Ok(None) | Err(_) => None,
     }
