@@ -68,7 +68,8 @@ fn step_in_etcd<R: Net + Clock, J: Journal>(
         journal.new) (λ _. IsLeft J.held J.is_missed journal.old journal.new) }
 {
     let room = Room::new(alloc, errands.len())?;
-    let Some(keep) = keep_for(rt, alloc, path, engine)? else {
+    let found = keep_for(rt, alloc, path, engine)?;
+    let Some(keep) = found else {
         drop(last);
         let answered = refuse_errands(alloc, errands, room, Refused::LoadFailed, now);
         return Ok(StepsResult::Answered(answered, None));
