@@ -9,7 +9,7 @@ use Rattle.ticket_items.specs.declared.refusal.Refusal.{Refusal}
 use Rattle.ticket_items.specs.declared.refusal.Refusal.TheVariants as refusals
 use Rattle.controller.specs.declared.message.Message.{Message}
 use Rattle.cells.specs.Chain.{Version}
-use Rattle.cells.specs.Kept.{IsStepped}
+use Rattle.cells.specs.Kept.{IsPartOf, IsStepped}
 use Rattle.stored_state.specs.Addressee.{is_addressed}
 use Rattle.stored_state.specs.AnyStep.{IsNoOrder, IsOrdered, text_of}
 use Rattle.stored_state.specs.Step.{TextStep}
@@ -21,6 +21,7 @@ use Rattle.stored_state.specs.declared.coming.Coming.TheVariants as comings
 use Rattle.stored_state.specs.declared.taken_bytes.TakenBytes.{TakenBytes}
 use Rattle.streams.specs.declared.refused.Refused.{Refused}
 use Rattle.streams.specs.declared.refused.Refused.TheVariants as refused
+use Rattle.rounds.proofs.CellStep.{stepped_since}
 use Rattle.rounds.specs.Anew.{AreCopies, CellTakesNone, ComesTo, Given, IsCopy, IsTaken, TakesText}
 
 -- ---- copies
@@ -106,6 +107,11 @@ stepped_of_copy to at all copied old new given same stepped = record {
   makes_it = text_of_copy to at all copied same _ stepped.bytes given stepped.makes_it;
   leaves = stepped.leaves;
 }
+
+-- the last try, behind others
+pub last_stepped : {T E : Type 0} (r : Result T E) (given_of : T → Given) (makes : List ℕ → List ℕ → Given → Type 0) (start mid new : List Version) → IsPartOf start mid → IfOk r (λ t. IsStepped makes mid new (given_of t)) → IfOk r (λ t. IsStepped makes start new (given_of t))
+last_stepped (Ok t) given_of makes start mid new since is = stepped_since makes start mid new (given_of t) since is
+last_stepped (Err e) given_of makes start mid new since is = tt
 
 -- ---- refusals
 

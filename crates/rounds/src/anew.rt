@@ -98,7 +98,7 @@ fn take_once<C: Cell>(
 }
 
 /// The same; where another's step came first, anew, of what is held then, sixteen times at most.
-fn take_anew<C: Cell>(
+pub fn take_anew<C: Cell>(
     alloc: Global,
     keep: &mut CellKeep<C>,
     last: Option<SavedState>,
@@ -106,6 +106,12 @@ fn take_anew<C: Cell>(
     all: Vec<Coming>,
     at: u64,
 ) -> Result<Given, Refused>
+    // Proved: All that comes in a round to a controller in a cell that others share comes, once it
+    // succeeds, to the one whose text was held, which stays or which the text of the state behind
+    // the last replaced, directly and once; no other swap of this round was made or will be. Each
+    // is given what it brought about in that one round.
+    // By `taken`, `each`, `stepped`, `sent`.
+    // Not proved: that it is tried sixteen times.
     ensures taken { IfOk result
         (λ taken. IsTaken to.entry at all.items (taken.0.items, taken.1)) }
     ensures each { IfOk result (λ taken. length taken.0.items ≡ length all.items) }
@@ -141,19 +147,7 @@ impl<C: Cell> RoundKeep for CellKeep<C> {
         to: Addressee<'_>,
         all: Vec<Coming>,
         at: u64,
-    ) -> Result<Given, Refused>
-        // Proved: All that comes in a round to a controller in a cell that others share comes, once
-        // it succeeds, to the one whose text was held, which stays or which the text of the state
-        // behind the last replaced, directly and once; no other swap of this round was made or
-        // will be. Each is given out of that one round what it brought about.
-        // By `stepped`, `sent`.
-        // Not proved: that it is tried sixteen times.
-        ensures stepped { C.is_honest ≡ true → IfOk result (λ taken.
-            IsStepped (TakesText to.entry at all.items) (C.view self.old.cell).chain
-            (C.view self.new.cell).chain (taken.0.items, taken.1)) }
-        ensures sent { C.is_honest ≡ true → OnOk result
-            (IsWithin (C.view self.new.cell).may_land (C.view self.old.cell).may_land) }
-    {
+    ) -> Result<Given, Refused> {
         take_anew(alloc, self, last, to, all, at)
     }
 }

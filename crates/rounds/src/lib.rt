@@ -14,6 +14,7 @@ mod round_keep;
 mod saved_states;
 mod waiting;
 
+pub use anew::take_anew;
 pub use answered::{AnsweredClient, refuse};
 pub use errand::Errand;
 pub use line::{answer_all, refuse_errands};
