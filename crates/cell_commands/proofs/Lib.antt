@@ -1,3 +1,4 @@
 mod Giving
 mod Making
+mod Refusing
 mod Stepped

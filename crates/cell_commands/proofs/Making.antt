@@ -1,6 +1,6 @@
 -- A step of a text in memory.
 use Rattle.std.proofs.Common.{◌≡◌, ◌⊎◌, inl, inr, ⊎_elim, ℕ, Bool, true, false, List, refl, sym, subst, ◌∙◌}
-use Rattle.std.specs.Prelude.{Option, Result, Ok}
+use Rattle.std.specs.Prelude.{Option, Result, Ok, Err, IfErr, IsErrAnd}
 use Rattle.json_profile.specs.ReadAs.{IsReadAs, IsRefusalOf}
 use Rattle.std.proofs.lemmas.Bool.{true≢false}
 use Rattle.ticket_items.specs.declared.refusal.Refusal.{Refusal}
@@ -36,11 +36,11 @@ made_step IsStep bytes held keep opened after reply sent same loaded gives = rec
   is_text = refl;
 }
 
--- its text is another's that is the same
-pub made_text : (IsStep : Steps) (bytes held text : List ℕ) (reply : Result Reply Refusal) (sent : Option (List ℕ)) (after : AnyController) → MakesStep IsStep bytes held (text_of after) reply sent after → text ≡ text_of after → MakesStep IsStep bytes held text reply sent after
-made_text IsStep bytes held text reply sent after made is = record {
+-- of a text that is the same, to one that is
+pub made_text : (IsStep : Steps) (bytes old held text : List ℕ) (reply : Result Reply Refusal) (sent : Option (List ℕ)) (after : AnyController) → MakesStep IsStep bytes old (text_of after) reply sent after → old ≡ held → text ≡ text_of after → MakesStep IsStep bytes held text reply sent after
+made_text IsStep bytes old held text reply sent after made same is = record {
   before = made.before;
-  read = made.read;
+  read = subst (λ l. IsReadAs any_state_read l (Ok made.before)) same made.read;
   step = made.step;
   is_step = made.is_step;
   replied = made.replied;
@@ -61,3 +61,8 @@ not_given IsRefused IsText count bytes held keep opened after (Core e) same load
 not_given IsRefused IsText count bytes held keep opened after SaveFailed same loaded why = absurd why.2.2.fails
 not_given IsRefused IsText count bytes held keep opened after Stale same loaded why = absurd (true≢false (sym why.0 ∙ loaded.fresh))
 not_given IsRefused IsText count bytes held keep opened after refused same loaded why = absurd why
+
+-- why a call gives up is told on
+pub err_told : {A E : Type 0} (P Q : E → Type 0) (r : Result A E) → IsErrAnd r P → ((e : E) → P e → Q e) → IfErr r Q
+err_told P Q (Ok a) why each = tt
+err_told P Q (Err e) why each = each e why
