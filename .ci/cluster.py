@@ -1,18 +1,19 @@
 #!/usr/bin/env python3
 """A shop whose controllers are kept in etcd, on three machines of which any may be lost:
-cluster.py PROGRAM [--seconds N] [--seed N]
+cluster.py PROGRAM [--seconds N] [--seed N] [--figures]
 
-Three nodes of etcd and, beside each, a server for each controller; before them a proxy that picks
-a server, and loses, doubles and holds up what comes. Days follow one another for so many seconds,
+Three nodes of etcd and, beside each, a server of all controllers; before them a proxy that picks a
+server, and loses, doubles and holds up what comes. Days follow one another for so many seconds,
 as those of chaos.py, while nodes and servers are killed or stopped and started or continued at
 random, and orders are given at a node that is picked at random. In the end the ticket is that of a
 quiet day, each part is merged once, and what was held under each key is one chain of steps: no
 audit and no spawn of one value isn't in the next. Then lost answers that land late, four writers on
-one controller, and a node without the others: what is told, and that it goes on. The last lines say
-how much went on.
+one controller, a node without the others and a quota that is used up: what is told, and that it
+goes on. The last lines say how much went on.
 """
 import argparse
 import base64
+import collections
 import contextlib
 import json
 import os
@@ -31,8 +32,8 @@ import urllib.request
 
 import chaos
 import processes
-from crowd import free_port
-from processes import AT, PROGRAM, attribute, run, wants
+from crowd import free_port, until_so
+from processes import AT, PROGRAM, attribute, request, run, wants
 
 NAMES = ("mis", "press", "bind")
 # What a step is refused with whose save isn't known, and one whose controller could not be loaded.
@@ -45,18 +46,21 @@ AWAY = ("Refused 57 SaveFailed", "Refused 59 LoadFailed")
 class Node:
     """A node of a cluster, in a folder of its own."""
 
-    def __init__(self, number, clients, peers):
+    def __init__(self, number, clients, peers, folder, options):
+        self.options = options
         self.name, self.client, self.peer = f"n{number}", clients[number], peers[number]
+        self.data = os.path.join(folder, self.name)
         self.cluster = ",".join(f"n{one}=http://127.0.0.1:{port}" for one, port in enumerate(peers))
         self.start()
 
     def start(self):
         client, peer = f"http://127.0.0.1:{self.client}", f"http://127.0.0.1:{self.peer}"
-        words = {"name": self.name, "data-dir": self.name, "listen-client-urls": client,
+        words = {"name": self.name, "data-dir": self.data, "listen-client-urls": client,
                  "advertise-client-urls": client, "listen-peer-urls": peer,
                  "initial-advertise-peer-urls": peer, "initial-cluster": self.cluster,
-                 "snapshot-count": "1000", "heartbeat-interval": "50", "election-timeout": "500"}
-        with open(self.name + ".log", "ab") as log:
+                 "snapshot-count": "1000", "heartbeat-interval": "50", "election-timeout": "500",
+                 **self.options}
+        with open(self.data + ".log", "ab") as log:
             self.process = subprocess.Popen(["etcd", *[f"--{word}={value}" for word, value in
                                                        words.items()]], stdout=log, stderr=log)
 
@@ -80,10 +84,12 @@ def key_of(place):
 
 
 @contextlib.contextmanager
-def cluster(count=3):
+def cluster(count=3, **options):
     """So many nodes that have a leader."""
     clients, peers = ([free_port() for _ in range(count)] for _ in range(2))
-    nodes = [Node(number, clients, peers) for number in range(count)]
+    folder = tempfile.mkdtemp(dir=".")
+    words = {word.replace("_", "-"): value for word, value in options.items()}
+    nodes = [Node(number, clients, peers, folder, words) for number in range(count)]
     try:
         until = time.monotonic() + 60
         while not all(is_well(node) for node in nodes):
@@ -129,12 +135,12 @@ def history(node, place):
 
 
 class Server(processes.Served):
-    """A server of a controller beside a node."""
+    """A server of a controller beside a node, or of a folder of them."""
 
     def __init__(self, node, place, *options):
         self.url_of_place = f"etcd://127.0.0.1:{node.client}/{place}"
         self.node, self.place = node, place
-        super().__init__(f"{node.name}-{os.path.basename(place)}", *options)
+        super().__init__(f"{node.name}-{place.strip('/').replace('/', '-')}", *options)
 
     def command(self):
         return [PROGRAM, "serve", self.url_of_place, "--listen", f"127.0.0.1:{self.port}",
@@ -159,7 +165,7 @@ class Server(processes.Served):
 
 
 class Servers:
-    """The servers of one controller, of which each connection has one."""
+    """The servers of the machines, of which each connection has one."""
 
     def __init__(self, servers, chance):
         self.servers, self.chance = servers, chance
@@ -188,11 +194,11 @@ class Day(chaos.Day):
         for name in ("press", "bind"):
             self.begin(name, {"Master": "mis", "Worker": name})
         start = time.monotonic()
-        self.served = {name: Servers([Server(node, self.place(name), "--limit", "10")
-                                      for node in nodes], self.chance) for name in NAMES}
-        self.to_start = (time.monotonic() - start) / 9
-        self.proxies = {name: chaos.Proxy(served, self.chance, counts)
-                        for name, served in self.served.items()}
+        servers = Servers([Server(node, self.folder + "/", "--limit", "10") for node in nodes],
+                          self.chance)
+        self.served = {"machines": servers}
+        self.to_start = (time.monotonic() - start) / 3
+        self.proxies = {name: chaos.Proxy(servers, self.chance, counts) for name in NAMES}
 
     def place(self, name):
         return f"{self.folder}/{name}"
@@ -209,12 +215,11 @@ class Day(chaos.Day):
         """Kills or stops a node or a server now and then, and starts it again or lets it go on, so
         that two nodes of three are there at any moment."""
         while not self.is_over:
-            time.sleep(0.5 + 2 * self.chance.random())
+            time.sleep(0.2 + self.chance.random())
             if self.chance.random() < 0.4:
                 one, word = self.chance.choice(self.nodes), "nodes"
             else:
-                servers = self.served[self.chance.choice(NAMES)].servers
-                one, word = self.chance.choice(servers), "servers"
+                one, word = self.chance.choice(self.served["machines"].servers), "servers"
             if self.chance.random() < 0.5:
                 self.counts[word + " stopped"] += 1
                 one.send_signal(signal.SIGSTOP)
@@ -260,19 +265,29 @@ class Day(chaos.Day):
         return body if '"JMF"' in body else ""
 
 
-def chain(values):
-    """What is wrong with what was held in turn, if anything: each value is a state, and what one
-    tells of the past the next tells too."""
-    before = []
-    for value in values:
-        if not value:
-            continue
-        audits = sorted(re.findall(r'"(?:SpawnID|MergeID|NewSpawnID)":"(S\d+)"', value))
-        for one in set(before):
-            if audits.count(one) < before.count(one):
-                return f"{one} is told less often than before"
-        before = audits
-    return None
+def past_of(value):
+    """What a state tells of the past: each audit of a master's ticket, each entry of a worker."""
+    state = json.loads(value)
+    if "Worker" in state:
+        return collections.Counter(entry["ID"] for entry in state["Worker"]["Entries"])
+    found = collections.Counter()
+
+    def walk(one):
+        if isinstance(one, list):
+            for item in one:
+                walk(item)
+        elif isinstance(one, dict):
+            found.update(json.dumps(audit) for audit in one.get("AuditPool", []))
+            for item in one.values():
+                walk(item)
+    walk(state["Master"])
+    return found
+
+
+def is_chain(values):
+    """Whether each value that was held is a state that tells of the past what the one before told."""
+    pasts = [past_of(value) for value in values if value]
+    return all(not before - behind for before, behind in zip(pasts, pasts[1:]))
 
 
 def day(seed, counts, wanted, nodes):
@@ -288,7 +303,7 @@ def day(seed, counts, wanted, nodes):
     for name in NAMES:
         values = history(nodes[0], one.place(name))
         assert len(values) > chaos.PARTS, (name, len(values))
-        wants(chain(values), None)
+        assert is_chain(values), name
         counts["values held"] += len(values)
 
 
@@ -440,7 +455,84 @@ def what_is_no_place(nodes):
     return "what names no place is no call"
 
 
+# ---- figures
+
+
+def large_opening(size):
+    """What a master begins with whose state has some so many bytes."""
+    nodes = [{"ID": f"n{number}", "JobPartID": "p", "Status": "Waiting", "Type": "Folding",
+              "Attr": {"Text": "x" * 100}} for number in range(1, max(1, size // 270))]
+    return json.dumps({"Master": "mis", "Workers": ["press"],
+                       "Ticket": dict(processes.TICKET, JDF=nodes)})
+
+
+def ordered(socket_path, order):
+    """How long an order over a server's socket takes, in milliseconds, and that it was done."""
+    start = time.monotonic()
+    with socket.socket(socket.AF_UNIX) as connection:
+        connection.settimeout(60)
+        connection.connect(socket_path)
+        connection.sendall(request(order, target="/mis"))
+        answer = processes.response(connection)
+    wants(processes.status_in(answer), 200)
+    return 1000 * (time.monotonic() - start)
+
+
+def step_times(served, socket_path):
+    """The 50th and the 99th of 100 steps of a controller that is served, in milliseconds."""
+    with served:
+        until_so(lambda: os.path.exists(socket_path), "a socket")
+        times = sorted(ordered(socket_path, attribute("A", f"x{number}")) for number in range(100))
+    return f"{times[49]:.1f} / {times[98]:.1f}"
+
+
+def figures():
+    """What a step costs in etcd and in a file, by the size of its state."""
+    print("  a step in ms, the 50th and the 99th of 100, in etcd of three nodes and in a file:")
+    with cluster() as nodes:
+        for size in (1_000, 20_000, 150_000):
+            folder = f"size{size}"
+            os.mkdir(folder)
+            wants(run("new", f"{folder}/mis", given=large_opening(size)), (0, "", ""))
+            url = f"etcd://127.0.0.1:{nodes[0].client}/{folder}/mis"
+            wants(run("new", url, given=large_opening(size)), (0, "", ""))
+            held = os.path.getsize(f"{folder}/mis")
+            engine = step_times(Server(nodes[0], f"{folder}/mis", "--orders", f"{folder}/a"),
+                                f"{folder}/a")
+            file = step_times(processes.Served(f"{folder}/mis", "--orders", f"{folder}/b"),
+                              f"{folder}/b")
+            print(f"  {held} bytes: {engine} and {file}", flush=True)
+
+
 CASES = (four_writers, without_the_others, a_lost_swap_lands_late, what_is_no_place)
+
+
+def etcdctl(node, *words):
+    ran = subprocess.run(["etcdctl", f"--endpoints=127.0.0.1:{node.client}", *words],
+                         env={**os.environ, "ETCDCTL_API": "3"}, capture_output=True, check=False)
+    wants((ran.returncode, ran.stderr.decode() if ran.returncode else ""), (0, ""))
+    return ran.stdout.decode()
+
+
+def a_quota_that_is_used_up(node):
+    """Where there is no room no step is made and all is shown; then the lines of the document help."""
+    url = begun(node, "full")
+    filler = base64.b64encode(b"x" * 1_000_000).decode()
+    until = time.monotonic() + 60
+    with contextlib.suppress(urllib.error.HTTPError):
+        while time.monotonic() < until:
+            node.asks("put", key=base64.b64encode(b"filler").decode(), value=filler)
+    status, text, told = run("order", url, "--at", AT, given=attribute("A"))
+    wants((status, text), (4, ""))
+    assert told.startswith("Refused 57 SaveFailed"), told
+    wants(names_of(url), [])
+    revision = node.asks("range", key=key_of("full"))["header"]["revision"]
+    etcdctl(node, "compact", revision)
+    etcdctl(node, "defrag")
+    etcdctl(node, "alarm", "disarm")
+    wants(run("order", url, "--at", AT, given=attribute("B")), (0, "Edited\n", ""))
+    wants(names_of(url), ["B"])
+    return "a quota that is used up: no step is made, all is shown, and it goes on"
 
 
 def cases():
@@ -448,6 +540,8 @@ def cases():
         for case in CASES:
             settles(nodes)
             print("  " + case(nodes), flush=True)
+    with cluster(1, quota_backend_bytes="16777216") as nodes:
+        print("  " + a_quota_that_is_used_up(nodes[0]), flush=True)
 
 
 def arguments():
@@ -455,6 +549,7 @@ def arguments():
     parser.add_argument("program", type=os.path.realpath)
     parser.add_argument("--seconds", type=int, default=180)
     parser.add_argument("--seed", type=int, default=1)
+    parser.add_argument("--figures", action="store_true", help="what a step costs, and no test")
     return parser.parse_args()
 
 
@@ -468,6 +563,9 @@ def main():
     folder = tempfile.mkdtemp()
     os.chdir(folder)
     try:
+        if args.figures:
+            figures()
+            return
         cases()
         count, took = days(args, counts)
         print(f"  {count} days, {9 * count} spawns in {took:.0f} s; "

@@ -59,10 +59,9 @@ fn ordered(
 impl<'a> Step for OrderStep<'a> {
     type Given = Result<(OrderBytes, AnyKept<MemoryKeep>), Fault>;
 
-    // Proved: The step of an order in a cell is that of the order that the input is, at its time,
+    // The step of an order in a cell is that of the order that the input is, at its time,
     // of the controller whose text was held, and leads to the text of the state behind it; or it
     // says why there is none, and that text stays.
-    // By `makes`.
     ghost makes = { λ step held text given. MakesOrder step.at step.input.now held text given };
 
     fn make(&self, alloc: Global, bytes: &[u8]) -> Result<(Vec<u8>, Self::Given), AllocError> {

@@ -59,10 +59,9 @@ fn taken(
 impl<'a> Step for MessageStep<'a> {
     type Given = Result<(TakenBytes, AnyKept<MemoryKeep>), Fault>;
 
-    // Proved: The step of a message in a cell is that of the message that the bytes are, at its
+    // The step of a message in a cell is that of the message that the bytes are, at its
     // time, of the controller whose text was held, and leads to the text of the state behind it;
     // or it says why there is none, and that text stays.
-    // By `makes`.
     ghost makes = { λ step held text given. MakesTaking step.at step.bytes.now held text given };
 
     fn make(&self, alloc: Global, bytes: &[u8]) -> Result<(Vec<u8>, Self::Given), AllocError> {

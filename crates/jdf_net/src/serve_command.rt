@@ -77,8 +77,8 @@ fn place_of<'a, R: Files>(rt: &R, path: &'a str) -> Place<'a> {
         return Place::at(rt, path);
     }
     match path.strip_suffix("/") {
-        Some(folder) => Place::Folder(folder),
-        None => Place::File(path),
+        Some(folder) if is_etcd(folder) => Place::Folder(folder),
+        _ => Place::File(path),
     }
 }
 

@@ -121,7 +121,7 @@ WaitsOn path to errands old new =
 -- those of a line have the responses of its controller, or wait on
 abbrev pub StepsThere : {R F : Type 0} → List ℕ → Owner → List (Errand TcpStream)
     → (old new : Server R F) → Type 0
-StepsThere {R} path to errands old new =
+StepsThere {R = R} path to errands old new =
     StepsClients R path to old.clients.now errands old.clients.all new.clients.all
     ⊎ WaitsOn path to errands old new
 

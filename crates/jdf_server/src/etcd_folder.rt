@@ -16,6 +16,15 @@ use std::rt::Files;
 use std::time::{Clock, Instant};
 use ticket_tree::Id;
 
+/// Whether a cell holds something, if it tells that. The cell is let go.
+fn holds<C: Cell>(cell: C) -> Option<bool> {
+    let mut cell = cell;
+    match cell.read() {
+        Ok(version) => Some(!version.bytes().is_empty()),
+        Err(_) => None,
+    }
+}
+
 /// Whether something is held under the key that a path names, if the engine tells it. What a touch
 /// left is nothing.
 fn is_held<R: Net + Clock>(
@@ -30,14 +39,11 @@ fn is_held<R: Net + Clock>(
     if engine.is_left(rt) {
         return Ok(None);
     }
-    let mut cell = place.cell(rt, alloc, Engine::limit())?;
+    let cell = place.cell(rt, alloc, Engine::limit())?;
     let asked = Instant::now(rt).ok();
-    let read = cell.read();
-    engine.note(rt, asked, read.is_err());
-    match read {
-        Ok(version) => Ok(Some(!version.bytes().is_empty())),
-        Err(_) => Ok(None),
-    }
+    let held = holds(cell);
+    engine.note(rt, asked, held.is_none());
+    Ok(held)
 }
 
 /// The keys in a folder of etcd and below it, if the engine tells them.

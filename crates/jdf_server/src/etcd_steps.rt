@@ -68,7 +68,8 @@ fn step_in_etcd<R: Net + Clock, J: Journal>(
         journal.new) (λ _. IsLeft J.held J.is_missed journal.old journal.new) }
 {
     let room = Room::new(alloc, errands.len())?;
-    let Some(keep) = keep_for(rt, alloc, path, engine)? else {
+    let found = keep_for(rt, alloc, path, engine)?;
+    let Some(keep) = found else {
         drop(last);
         let answered = refuse_errands(alloc, errands, room, Refused::LoadFailed, now);
         return Ok(StepsResult::Answered(answered, None));
@@ -167,6 +168,12 @@ pub(crate) fn step_own_at<R: Locks + Net + Clock, J: Journal>(
     step_own_in_file(rt, alloc, path, last, to, all, journal)
 }
 
+/// What a keeper holds, if it gives that. The keeper is let go.
+fn loaded<K: Keep>(keep: K) -> Option<Vec<u8>> {
+    let mut keep = keep;
+    keep.load().ok()
+}
+
 /// The value under the key that a path names, if the engine gives it.
 fn value_at<R: Net + Clock>(
     rt: &R,
@@ -175,11 +182,11 @@ fn value_at<R: Net + Clock>(
     engine: &mut Engine,
 ) -> Option<Vec<u8>> {
     match keep_for(rt, alloc, path, engine) {
-        Ok(Some(mut keep)) => {
+        Ok(Some(keep)) => {
             let asked = Instant::now(rt).ok();
-            let loaded = keep.load().ok();
-            engine.note(rt, asked, loaded.is_none());
-            loaded
+            let value = loaded(keep);
+            engine.note(rt, asked, value.is_none());
+            value
         }
         Ok(None) | Err(_) => None,
     }

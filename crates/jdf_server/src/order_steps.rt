@@ -144,7 +144,8 @@ fn order_in_etcd<R: Net + Clock, J: Journal>(
     ensures { IfOk result (AreOrdersSteppedAt R true path.now to.entry now orders.items last) }
 {
     let room = Room::new(alloc, orders.len())?;
-    let Some(keep) = keep_for(rt, alloc, path, engine)? else {
+    let found = keep_for(rt, alloc, path, engine)?;
+    let Some(keep) = found else {
         drop(last);
         let told = refuse_errands(alloc, orders, room, Refused::LoadFailed, now);
         return Ok(OrdersResult::Told(told, None));

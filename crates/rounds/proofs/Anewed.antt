@@ -1,5 +1,5 @@
 -- All that comes to the controller in a cell, of copies, and of the text that was loaded.
-use Rattle.std.proofs.Common.{◌≡◌, ◌∙◌, ◌≤◌, ◌<◌, ◌+◌, ◌⊎◌, ◌++◌, ℕ, Bool, true, false, true≢false, List, [], ◌∷◌, Option, Some, None, Result, Ok, Err, IfOk, ap, arith, get_or, inl, inr, length, refl, subst, suc, sym, take, ⊎_elim}
+use Rattle.std.proofs.Common.{◌≡◌, ◌≢◌, ◌∙◌, ◌≤◌, ◌<◌, ◌+◌, ◌⊎◌, ◌++◌, ℕ, Bool, true, false, true≢false, List, [], ◌∷◌, Option, Some, None, Result, Ok, Err, IfOk, ap, arith, get_or, inl, inr, length, refl, subst, suc, sym, take, ⊎_elim}
 use Rattle.std.proofs.lemmas.List.{take_more}
 use Rattle.std.proofs.Math.Nat.{eq-or-lt_of_le}
 use Rattle.keepers.specs.Keeper.{CountRose}
@@ -168,9 +168,9 @@ module _ {K : Type 0} (place : K → List ℕ) (count : K → ℕ) where
   abbrev no_bytes : K → List ℕ
   no_bytes keep = []
 
-  kept_so : {before last : AnyController} (given : List (Result TakenBytes Refusal)) (saved : Option AnyController) (old new : K) (a b : List ℕ) → IsKept (λ (t : List ℕ). true) (λ (t : List ℕ). t) given before last a b saved → IsKept dishonest no_bytes given before last old new saved
-  kept_so given (Some saved) old new a b kept = (kept.0, λ is. absurd (true≢false (sym is)))
-  kept_so given None old new a b kept = (kept.0, kept.1, λ is. absurd (true≢false (sym is)))
+  kept_so : (before last : AnyController) (given : List (Result TakenBytes Refusal)) (saved : Option AnyController) (old new : K) (a b : List ℕ) → IsKept (λ (t : List ℕ). true) (λ (t : List ℕ). t) given before last a b saved → IsKept dishonest no_bytes given before last old new saved
+  kept_so before last given (Some saved) old new a b kept = (kept.0, λ is. absurd (true≢false (sym is)))
+  kept_so before last given None old new a b kept = (kept.0, kept.1, λ is. absurd (true≢false (sym is)))
 
   pub all_taken : (to : Addressee) (at : ℕ) (all : List Coming) (given : Given) (old new : K) → IsTaken to at all given → TakesAll dishonest no_bytes to at all given.0 given.1 old new
   all_taken to at all given old new taken = record {
@@ -179,7 +179,7 @@ module _ {K : Type 0} (place : K → List ℕ) (count : K → ℕ) where
     addressed = taken.2.addressed;
     last = taken.2.last;
     taken = taken.2.taken;
-    kept = kept_so given.0 given.1 old new taken.0 taken.1 taken.2.kept;
+    kept = kept_so taken.2.before taken.2.last given.0 given.1 old new taken.0 taken.1 taken.2.kept;
   }
 
   pub none_taken : (load_fails : K → K → Type 0) (save_fails : K → List ℕ → K → Type 0) (to : Addressee) (at : ℕ) (all : List Coming) (old new : K) (e : Refused) → (CountRose (count old) (count new) → load_fails old new) → ((text : List ℕ) → CountRose (count old) (count new) → save_fails old text new) → CellTakesNone to at all (count old) (count new) e → TakesNone dishonest no_bytes place count load_fails save_fails to at all old new e
@@ -217,6 +217,10 @@ text_saved to at all old new text given next saved takes is same =
       taken = some.taken;
       kept = (some.kept.0, λ honest. same ∙ ap text_of some.kept.0);
     }
+
+pub none_of : {A : Type 0} (o : Option A) → ((x : A) → o ≢ Some x) → o ≡ None
+none_of None not = refl
+none_of (Some x) not = absurd (not x refl)
 
 -- where no step was made the text stays
 pub text_stays : (to : Addressee) (at : ℕ) (all : List Coming) (old new : List ℕ) (given : List (Result TakenBytes Refusal)) (next : Option AnyController) → TakesText to at all old new (given, next) → next ≡ None → TakesText to at all old old (given, None)

@@ -1,4 +1,5 @@
 pub mod Anewed
 pub mod Answering
+pub mod CellStep
 pub mod Keeping
 mod Parting

@@ -138,7 +138,8 @@ pub fn answer_all<K: RoundKeep, S: Drop, A: Recipient<S>>(
     // client's own request: what clients have come for came to it one after the other, it is one
     // that is addressed, and the state behind the last is held before any response is given; so a
     // 200 tells of a step that is saved. What the message was taken as is told, and who sent it.
-    // By `steps`, `place`; `Room::new`, `AnsweredClient::tell`.
+    // By `steps`, `place`; `RoundKeep::take_round`: `ok`, `each`, `place`, `refused`;
+    // `Room::new`, `AnsweredClient::tell`.
     // Not proved: that memory doesn't run out for a response.
     // Proved: Where the controller can't be loaded or saved, or isn't one that is addressed, each
     // is refused with a status of 503, and what is held is what was, or the state behind the last.
