@@ -1,3 +1,4 @@
+mod Beginning
 mod Giving
 mod Making
 mod Refusing

@@ -1,6 +1,6 @@
-use Rattle.std.proofs.Common.{◌≡◌, inl, inr, true, option_map, subst, sym}
+use Rattle.std.proofs.Common.{inl, inr, subst, sym}
 use Rattle.cells.specs.Kept.{IsStepped}
-use Rattle.stored_state.specs.AnyStep.{IsNoOrder, IsOrdered}
+use Rattle.stored_state.specs.AnyStep.{IsNoOrder}
 use Rattle.stored_state.specs.Opened.{controller_in}
 use Rattle.cell_commands.specs.Faults.{DoesNoneOf, IsUnstepped}
 use Rattle.cell_commands.specs.Steps.{MakesOrder}

@@ -1,6 +1,6 @@
-use Rattle.std.proofs.Common.{◌≡◌, inl, inr, true, option_map, refl, subst, sym}
+use Rattle.std.proofs.Common.{inl, inr, refl, subst, sym}
 use Rattle.std.proofs.lemmas.Result.{IfErr-weaker, IfOk-weaker}
-use Rattle.stored_state.specs.AnyStep.{IsNoOrder, IsOrdered}
+use Rattle.stored_state.specs.AnyStep.{IsNoOrder}
 use Rattle.streams.specs.Streams.{IsInput, traffic}
 use Rattle.cell_commands.specs.Faults.{DoesNone, DoesNoneOf, IsUnseen}
 use Rattle.cell_commands.proofs.Giving.{since_line, since_noting}
