@@ -1,4 +1,4 @@
-mod Beginning
+mod FirstHeld
 mod Giving
 mod Making
 mod Refusing
