@@ -1,3 +1,5 @@
+mod FirstHeld
 mod Giving
 mod Making
+mod Refusing
 mod Stepped

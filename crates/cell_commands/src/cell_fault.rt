@@ -28,12 +28,12 @@ pub enum CellFault {
 
 impl CellFault {
     /// The fault that it is told as.
-    pub fn fault(self) -> Fault
+    pub fn fault(&self) -> Fault
         // Proved: Each fault of a call on a cell has the line and the status of one on a file.
-        ensures { result ≡ faults.fault_in self }
+        ensures { result ≡ faults.fault_in self.now }
     {
         match self {
-            CellFault::Call(fault) => fault,
+            CellFault::Call(fault) => *fault,
             CellFault::Unread => Fault::Device(Refused::LoadFailed),
             CellFault::Taken
             | CellFault::Unanswered

@@ -99,7 +99,8 @@ fn order_given<C: Cell, J: Journal>(
     ensures unsaved { IfErr result (λ e. J.is_honest journal.old ≡ true →
         IsLeft J.held J.is_missed journal.old journal.new ⊎ (e ≡ out_of_memory)) }
 {
-    let (given, opened) = step_in_cell(alloc, keep, &OrderStep { input, at })??;
+    let stepped = step_in_cell(alloc, keep, &OrderStep { input, at })?;
+    let (given, opened) = stepped?;
     journal_order(alloc, journal, &opened, by, input, &given.reply, at);
     let notes = notes_of_order(alloc, &given.reply, &opened)?;
     let OrderBytes { reply, message } = given;

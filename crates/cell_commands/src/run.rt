@@ -33,18 +33,22 @@ fn text_of(text: &Option<String>) -> Option<&str> {
     }
 }
 
+/// Whether a cell holds nothing.
+fn is_empty<C: Cell>(mut cell: C) -> Result<bool, KeepFault> {
+    let version = cell.read()?;
+    Ok(version.revision() == 0)
+}
+
 /// Why nothing was read, as far as that is seen by asking once more.
 fn why_unread<R: Net + Clock>(
     rt: &R,
     alloc: Global,
     place: EtcdPlace<'_>,
 ) -> Result<String, AllocError> {
-    let mut cell = place.cell(rt, alloc, Duration::from_secs(EXCHANGE_SECONDS))?;
-    match cell.read() {
-        Ok(version) if version.revision() == 0 => {
-            String::from_str(alloc, "nothing is kept there")
-        }
-        Ok(_) => Ok(String::new(alloc)),
+    let cell = place.cell(rt, alloc, Duration::from_secs(EXCHANGE_SECONDS))?;
+    match is_empty(cell) {
+        Ok(true) => String::from_str(alloc, "nothing is kept there"),
+        Ok(false) => Ok(String::new(alloc)),
         Err(KeepFault::Failed) => no_answer(alloc, place),
         Err(KeepFault::Memory) => Err(AllocError),
     }
@@ -61,7 +65,7 @@ fn cause_of<R: Net + Clock>(
     rt: &R,
     alloc: Global,
     place: EtcdPlace<'_>,
-    fault: CellFault,
+    fault: &CellFault,
 ) -> Result<String, AllocError> {
     match fault {
         CellFault::Call(_) => Ok(String::new(alloc)),
@@ -78,9 +82,9 @@ fn caused_by<R: Net + Clock>(
     rt: &R,
     alloc: Global,
     place: EtcdPlace<'_>,
-    fault: CellFault,
+    fault: &CellFault,
 ) -> CausedFault
-    ensures { result.fault ≡ fault_in fault }
+    ensures { result.fault ≡ fault_in fault.now }
 {
     match cause_of(rt, alloc, place, fault) {
         Ok(cause) if !cause.is_empty() => CausedFault::at(alloc, fault.fault(), cause.as_str()),
@@ -137,7 +141,7 @@ pub fn run_in_cell<R: Locks + Net + Clock, I: Read, W: Write, F: Write, J: Journ
 {
     match output_at(rt, alloc, place, *call, reader, journal) {
         Ok(noted) => finish_noting(Ok(noted), writer, faults),
-        Err(fault) => give_up_caused(alloc, caused_by(rt, alloc, place, fault), faults),
+        Err(fault) => give_up_caused(alloc, caused_by(rt, alloc, place, &fault), faults),
     }
 }
 

@@ -98,7 +98,8 @@ fn take_given<C: Cell, J: Journal>(
     ensures unsaved { OnErr result (J.is_honest journal.old ≡ true →
         IsLeft J.held J.is_missed journal.old journal.new) }
 {
-    let (given, opened) = step_in_cell(alloc, keep, &MessageStep { bytes, at })??;
+    let stepped = step_in_cell(alloc, keep, &MessageStep { bytes, at })?;
+    let (given, opened) = stepped?;
     journal_message(alloc, journal, &opened, bytes, &given.reply, at);
     drop(opened);
     Ok(given)

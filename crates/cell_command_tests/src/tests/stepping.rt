@@ -116,7 +116,13 @@ static CASES: [Case; 16] = [
     },
     // It is late, and the touch comes first.
     Case {
-        turns: &[Turn::Answer, Turn::Answer, Turn::Delay, Turn::Answer, Turn::Land],
+        turns: &[
+            Turn::Answer,
+            Turn::Answer,
+            Turn::Delay,
+            Turn::Answer,
+            Turn::Land,
+        ],
         after: NO_ENTRY,
         versions: 2,
         ..LOST
@@ -128,7 +134,13 @@ static CASES: [Case; 16] = [
     },
     // It comes when all is over.
     Case {
-        turns: &[Turn::Answer, Turn::Answer, Turn::Delay, Turn::Lose, Turn::Land],
+        turns: &[
+            Turn::Answer,
+            Turn::Answer,
+            Turn::Delay,
+            Turn::Lose,
+            Turn::Land,
+        ],
         ..LOST
     },
     // The load behind the input isn't answered.
@@ -224,11 +236,13 @@ fn holds(rt: &HostRuntime, alloc: Global, case: &Case) -> Result<bool, Fail> {
         &mut journal,
     );
     let _ = cell.read();
-    Ok(is_so(&came, case)
-        && (reader.calls() > 0) == case.reads
-        && lines(journal.text()) == case.lines
-        && held(&cell) == case.after.as_bytes()
-        && cell.chain().len() == case.versions)
+    Ok(
+        is_so(&came, case)
+            && (reader.calls() > 0) == case.reads
+            && lines(journal.text()) == case.lines
+            && held(&cell) == case.after.as_bytes()
+            && cell.chain().len() == case.versions,
+    )
 }
 
 #[test]
@@ -255,11 +269,23 @@ fn sixteen_others_are_enough(rt: HostRuntime) -> Result<(), Fail> {
         let mut reader = Counted::new(SUBMIT.as_bytes());
         let mut journal = MemoryJournal::new(Vec::new(rt.alloc()));
         let lent = lend(&mut cell);
-        let came = output_in_cell(&rt, rt.alloc(), lent, call_of(Asked::Take), None, &mut reader, &mut journal);
+        let came = output_in_cell(
+            &rt,
+            rt.alloc(),
+            lent,
+            call_of(Asked::Take),
+            None,
+            &mut reader,
+            &mut journal,
+        );
         let case = Case { comes, ..TAKEN };
         assert!(rt; is_so(&came, &case), "{count}");
         assert_eq!(rt; held(&cell), after.as_bytes(), "{count}");
-        assert_eq!(rt; lines(journal.text()), if comes.is_ok() { 1 } else { 0 }, "{count}");
+        assert_eq!(rt;
+            lines(journal.text()),
+            if comes.is_ok() { 1 } else { 0 },
+            "{count}"
+        );
     }
     Ok(())
 }
