@@ -1,0 +1,7 @@
+mod Numbers
+mod Asked
+mod Stops
+mod Days
+mod OneTicket
+mod Made
+mod Commands
