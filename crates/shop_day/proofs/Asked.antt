@@ -7,6 +7,7 @@ use Rattle.std.specs.Str.{bytes_eq}
 use Rattle.serde_json.specs.Data.{Data}
 use Rattle.ticket_items.specs.Ids.{mem}
 use Rattle.ticket_items.specs.declared.refusal.Refusal.{Refusal}
+use Rattle.ticket_items.specs.declared.refusal.Refusal.TheVariants.{UnknownWorker}
 use Rattle.controller.specs.Step.{Step}
 use Rattle.controller.specs.declared.message.Message.{Message}
 use Rattle.controller_form.specs.Orders.MasterForm.{master_order_read}
@@ -14,6 +15,7 @@ use Rattle.controller_form.specs.Orders.WorkerForm.{worker_order_read}
 use Rattle.json_profile.specs.ReadAs.{IsReadAs}
 use Rattle.plain_shop.specs.Step.{StepOrWord}
 use Rattle.stored_state.specs.Seat.{read_in}
+use Rattle.worker_core.specs.Orders.{order_step as ordered_worker}
 use Rattle.worker_core.specs.Worker as worker
 use Rattle.world.proofs.Runs.Cases.{made_of}
 use Rattle.world.proofs.Runs.NeedsNoMemory.{is_received}
@@ -22,12 +24,13 @@ use Rattle.world.specs.Controllers.{Controllers, worker_of}
 use Rattle.world.specs.Happening.{answer_to, next_answer, step_of}
 use Rattle.world.specs.Showing.{shows}
 use Rattle.world.specs.State.{IsConsistent, State, message_at}
-use Rattle.world_items.specs.Word.{word_of}
-use Rattle.world_items.specs.declared.reply.Reply.{Reply}
+use Rattle.world.specs.Stepping.{worker_moved}
 use Rattle.world_items.specs.declared.stop.Stop.TheVariants.{Run}
 use Rattle.world_items.specs.declared.what.What.{What}
 use Rattle.world_items.specs.declared.what.What.TheVariants.{MasterOrder, WorkerOrder, Deliver}
 use Rattle.world_items.specs.declared.word.Word.{Word}
+use Rattle.world_items.specs.declared.word.Word.TheVariants.{Refused}
+use Rattle.shop_day.specs.Done.{IsReply}
 use Rattle.shop_day.specs.Lines.{event, order_in}
 
 -- what bytes are read as
@@ -37,9 +40,9 @@ read_so reads bytes a is = ap (option_and_then (λ d. result_ok (reads d))) is.j
 -- ---- a step has a reply
 
 abbrev pub HasReply : What → ℕ → State → Type 0
-HasReply what at w = (reply : Result Reply Refusal) × ((answer_to (event what at Run) w).word ≡ word_of reply)
+HasReply what at w = IsReply (answer_to (event what at Run) w).word
 
-reply_of : (w : State) (step : StepOrWord Controllers Message) → is_ok step ≡ true → (reply : Result Reply Refusal) × ((next_answer Run w step).word ≡ word_of reply)
+reply_of : (w : State) (step : StepOrWord Controllers Message) → is_ok step ≡ true → IsReply (next_answer Run w step).word
 reply_of w (Ok moved) made = (moved.reply, refl)
 reply_of w (Err word) made = absurd (true≢false (sym made))
 
@@ -56,7 +59,7 @@ order_made true theirs w name bytes what at named ok asked =
     ap (λ x. is_ok (step_of x at w)) (sym is.2)
 order_made false true w name bytes what at named ok asked =
     let is = made_of (WorkerOrder name) (read_in worker_order_read bytes) what asked in
-    ap (λ x. is_ok (step_of x at w)) (sym is.2) ∙ made_of_some w.controllers _ _ (worker_of w.controllers.workers name) (worker_known w name ok ∙ named)
+    ap (λ x. is_ok (step_of x at w)) (sym is.2) ∙ made_of_some w.controllers (λ v. worker_moved w.controllers v (ordered_worker is.0 at v)) (Refused UnknownWorker) (worker_of w.controllers.workers name) (worker_known w name ok ∙ named)
 order_made false false w name bytes what at named ok asked = absurd (true≢false (ap is_some (sym asked)))
 
 pub order_replies : (w : State) (name bytes : List ℕ) (what : What) (at : ℕ) → IsConsistent w → order_in (shows w).shop name bytes ≡ Some what → HasReply what at w

@@ -5,3 +5,4 @@ mod Days
 mod OneTicket
 mod Made
 mod Commands
+mod Failing

@@ -59,12 +59,14 @@ pub record IsMade (w : State) (name : List ℕ) (what : What) (at : ℕ) (step :
 -- ---- who has a name
 
 
-who_of : (mine : Bool) (m : master.State) (found : Option worker.State) (c : AnyController) → cond mine (Some (of_master m)) (option_map of_worker found) ≡ Some c
+pub who_of : (mine : Bool) (m : master.State) (found : Option worker.State) (c : AnyController) → cond mine (Some (of_master m)) (option_map of_worker found) ≡ Some c
     → ((mine ≡ true) × (c ≡ of_master m)) ⊎ ((v : worker.State) × (mine ≡ false) × (found ≡ Some v) × (c ≡ of_worker v))
 who_of true m found c is =
+    let there : Some (of_master m) ≡ Some c = is in
     let same : c ≡ of_master m = cc in
     inl (refl, same)
 who_of false m (Some v) c is =
+    let there : Some (of_worker v) ≡ Some c = is in
     let same : c ≡ of_worker v = cc in
     inr (v, refl, refl, same)
 who_of false m None c is = absurd (true≢false (ap is_some (sym is)))

@@ -15,7 +15,7 @@ use Rattle.world.proofs.Shop.AlwaysKept.{kept_after}
 use Rattle.world.proofs.Shop.Changing.{alone, by_holders, kept_then_all}
 use Rattle.world.proofs.Shop.MergesTold.{run_told}
 use Rattle.world.proofs.Shop.Once.{run_merges_once}
-use Rattle.world.specs.Happening.{after, after_all, answer_to, step_of}
+use Rattle.world.specs.Happening.{after, after_all, answer_to, answers_to, step_of}
 use Rattle.world.specs.Showing.{shows}
 use Rattle.world.specs.State.{IsConsistent, State}
 use Rattle.world_items.specs.declared.answer.Answer.{Answer}
@@ -81,7 +81,7 @@ pub one_ticket : (lines : List Line) (outcomes : List Outcome) (first closing : 
 one_ticket lines outcomes first closing ok done =
     let es = events done.day in
     let kept : IsConsistent closing = kept_then_all es first closing ok done.closing in
-    let said : replay.answers_to es (shows first) ≡ _ = sym (events_are_replayed first es ok).0 in
+    let said : replay.answers_to es (shows first) ≡ answers_to es first = sym (events_are_replayed first es ok).0 in
     record {
       day = done.day;
       lines_are = done.lines_are;

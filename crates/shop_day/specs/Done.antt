@@ -17,6 +17,7 @@ use Rattle.world_items.specs.declared.reply.Reply.{Reply}
 use Rattle.world_items.specs.declared.stop.Stop.{Stop}
 use Rattle.world_items.specs.declared.stop.Stop.TheVariants.{Run, BeforeSave, BeforeSend}
 use Rattle.world_items.specs.declared.what.What.{What}
+use Rattle.world_items.specs.declared.word.Word.{Word}
 use Rattle.jdf_commands.specs.FileCommands.Step.{is_refused, step_lines}
 use Rattle.shop_day.specs.Files.{shown_of}
 use Rattle.shop_day.specs.Lines.{GivesUp, IsFailed, asks_step, event, event_of}
@@ -47,6 +48,10 @@ IsOutcome Writes IsFault stop (GaveUp fault) =
 -- the text of the message of a number, if there is one
 abbrev pub text_at : List Message → Option ℕ → Option (List ℕ)
 text_at messages number = option_map message_text (option_and_then (message_at messages) number)
+
+-- the word tells a reply or a refusal
+abbrev pub IsReply : Word → Type 0
+IsReply word = (reply : Result Reply Refusal) × (word ≡ word_of reply)
 
 -- what is written of an answer: its reply or its refusal, and the text that goes out
 pub record IsWritten (a : Answer) (messages : List Message) (out : Output) : Type 0 where

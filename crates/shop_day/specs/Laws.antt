@@ -1,5 +1,5 @@
 -- Laws that tie the lines of a day to the commands over keepers.
-use Rattle.std.specs.Prelude.{◌≡◌, ◌⊎◌, ℕ, Bool, false, List, Option, Some, Result, Ok}
+use Rattle.std.specs.Prelude.{◌≡◌, ◌⊎◌, ℕ, Bool, false, true, List, Option, Some, Result, Ok}
 use Rattle.std.specs.Global.{Vec}
 use Rattle.ticket_items.specs.declared.refusal.Refusal.{Refusal}
 use Rattle.controller.specs.declared.message.Message.{Message}
@@ -74,6 +74,7 @@ FailedOrderIsLine {K = K} is_honest held place count save_fails =
     (w : State) (name : List ℕ) (bytes : Vec ℕ) (at : ℕ) (keep : K)
     (before after : KeptState AnyController K) (fault : Fault) → IsConsistent w
     → IsFileOf is_honest held w name keep → IsLoaded is_honest held place keep before
+    → is_honest after.keep ≡ true
     → GivesNoOutput is_honest held count save_fails text_of (IsNoOrder bytes.items before.controller)
     (IsOrdered at bytes.items before.controller) before after fault
     → (new : State) × DoesLine (record { call = Order name bytes; at = at }) w new (GaveUp fault)

@@ -1,7 +1,7 @@
 use keepers::{Cut, CutKeep};
 use std::alloc::Global;
-use ticket_tree::Id;
 use streams::Refused;
+use ticket_tree::Id;
 use world::Keepers;
 
 /// Where the saves of the controller of a name are cut off, the first by the first: that is the one
@@ -27,12 +27,13 @@ impl CutKeepers {
 
     /// The cuts of a name, which are given once.
     fn cuts_of(&mut self, alloc: Global, name: &Id) -> Vec<Cut> {
-        match self.named.iter().position(|named| named.name == *name) {
-            None => Vec::new(alloc),
-            Some(place) => {
+        let place = self.named.iter().position(|named| named.name == *name);
+        match place {
+            Some(place) if place < self.named.len() => {
                 let NamedCuts { cuts, .. } = self.named.swap_remove(place);
                 cuts
             }
+            _ => Vec::new(alloc),
         }
     }
 }

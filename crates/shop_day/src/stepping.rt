@@ -4,10 +4,8 @@ ghost use Rattle.std.specs.Prelude.{◌≡◌, is_some, true, IfOk, IfSome};
 ghost use Rattle.jdf_commands.specs.FileCommands.Step as steps;
 ghost use Rattle.shop_day.specs.Done as done;
 ghost use Rattle.shop_day.specs.Lines as lines;
-ghost use Rattle.ticket_items.specs.declared.refusal.Refusal.{Refusal as RefusalSeen};
 ghost use Rattle.world.specs.Happening as happening;
 ghost use Rattle.world_items.specs.Word.{word_of};
-ghost use Rattle.world_items.specs.declared.reply.Reply.{Reply as ReplySeen};
 ghost use Rattle.world_items.specs.declared.stop.Stop.TheVariants.{Run};
 
 use crate::outcome::Outcome;
@@ -27,8 +25,7 @@ use world_items::{Answer, Event, Stop, What, Word};
 /// The reply or the refusal that a word tells, if it tells one.
 fn reply_in(word: Word) -> Option<Result<Reply, Refusal>>
     ensures some { IfSome result (λ reply. word ≡ word_of reply) }
-    ensures any { (reply : Result ReplySeen RefusalSeen) → word ≡ word_of reply
-        → is_some result ≡ true }
+    ensures any { done.IsReply word → is_some result ≡ true }
 {
     match word {
         Word::Did(reply) => Some(Ok(reply)),
@@ -71,7 +68,7 @@ fn told<K: Keep>(
     shop: &Seats<KeptSeat<Master, K>, KeptSeat<Worker, K>>,
     answer: Answer,
 ) -> Result<Outcome, AllocError>
-    requires { (reply : Result ReplySeen RefusalSeen) × (answer.word ≡ word_of reply) }
+    requires { done.IsReply answer.word }
     ensures { IfOk result (done.IsOutcome (done.IsWritten answer shop.now.messages)
         lines.IsFailed Run) }
 {
@@ -90,8 +87,7 @@ pub fn stepped<K: Keep>(
     at: u64,
 ) -> Result<Outcome, AllocError>
     // Wants: a step.
-    requires { (reply : Result ReplySeen RefusalSeen)
-        × ((happening.answer_to (lines.event what at Run) shop.old).word ≡ word_of reply) }
+    requires { done.IsReply (happening.answer_to (lines.event what at Run) shop.old).word }
     ensures { IfOk result (done.StepsTo what at shop.old shop.new) }
 {
     let event = Event {

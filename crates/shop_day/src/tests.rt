@@ -114,7 +114,7 @@ fn comes(alloc: Global, shop: &mut Shop, step: &Step) -> Result<bool, Fail> {
 
 /// Whether all steps of the day do.
 fn all_come(alloc: Global, shop: &mut Shop) -> Result<bool, Fail> {
-    for step in &STEPS {
+    for step in STEPS.iter() {
         if !comes(alloc, shop, step)? {
             return Ok(false);
         }
