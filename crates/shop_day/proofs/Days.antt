@@ -1,6 +1,9 @@
 -- Lines that were done in turn, and one more.
-use Rattle.std.proofs.Common.{◌≡◌, ◌∙◌, ◌++◌, ◌∷◌, [], List, map, ap, refl, subst, sym}
-use Rattle.std.proofs.lemmas.List.{map-append}
+use Rattle.std.proofs.Common.{◌≡◌, ◌∙◌, ◌++◌, ◌∷◌, [], List, Option, None, map, ap, refl, subst, sym}
+use Rattle.std.proofs.lemmas.Iterator.Consumers.{YieldsList-end}
+use Rattle.std.proofs.lemmas.Iterator.{YieldsList}
+use Rattle.std.proofs.lemmas.List.{map-append, map-id}
+use Rattle.std.specs.Iterator.{Yields}
 use Rattle.world.proofs.Runs.SoFar.{after_all-push}
 use Rattle.world.specs.Happening.{after, after_all, machine}
 use Rattle.world.specs.State.{State}
@@ -8,8 +11,12 @@ use Rattle.shop_day.specs.Done.{AreDone, DoLines, DoesLine, Done, IsDone, events
 use Rattle.shop_day.specs.declared.line.Line.{Line}
 use Rattle.shop_day.specs.declared.outcome.Outcome.{Outcome}
 
-pub none_done : (w : State) → DoLines [] [] w w
-none_done w = record { day = []; lines_are = refl; outcomes_are = refl; done = tt; closing = refl }
+pub begun : (w : State) (outcomes : List Outcome) → outcomes ≡ [] → DoLines [] outcomes w w
+begun w outcomes none = record { day = []; lines_are = refl; outcomes_are = sym none; done = tt; closing = refl }
+
+-- no line is next
+pub all_of : {S : Type 0} {steps : S → Option Line → S → Type 0} {s : S} {all : List Line} (y : YieldsList steps (λ z. z) s all) (done : List Line) (t : S) (given : Yields steps s done t) (r : Option Line) (u : S) → r ≡ None → steps t r u → done ≡ all
+all_of y done t given r u is step = sym (map-id done) ∙ (YieldsList-end y done t given r u is step).0
 
 done_behind : (day : List Done) (d : Done) (w : State) → AreDone day w → IsDone d (after_all (events day) w) → AreDone (day ++ d ∷ []) w
 done_behind [] d w before is = (is, tt)

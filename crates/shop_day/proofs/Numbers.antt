@@ -2,8 +2,9 @@
 use Rattle.std.proofs.Common.{◌≡◌, ◌∙◌, ℕ, zero, suc, Bool, true, false, List, [], ◌∷◌, ◌++◌, length, map, Option, Some, None, is_some, slice_get, Ok, Err, ap, refl, sym}
 use Rattle.std.proofs.lemmas.Bool.{true≢false}
 use Rattle.std.proofs.lemmas.Option.{slice_get-map}
+use Rattle.std.specs.Borrow.{Bor}
 use Rattle.std.specs.Global.{Vec}
-use Rattle.std.specs.Option.{option_and_then, option_map}
+use Rattle.std.specs.Option.{option_and_then, option_copied, option_map}
 use Rattle.controller.specs.declared.message.Message.{Message}
 use Rattle.stored_state.specs.Message.{message_text}
 use Rattle.plain_shop.specs.Settling.{message_at, number_of, with_sent}
@@ -37,6 +38,15 @@ numbered_alike f g xs ys k same =
 
 pub numbered-map : {X Y : Type 0} (f : X → Y) (xs : List X) (k : ℕ) → is_some (message_at (map f xs) k) ≡ is_some (message_at xs k)
 numbered-map f xs k = ap is_some (message_at-map f xs k) ∙ some-map f (message_at xs k)
+
+-- a reference and what is behind it
+pub some_copied : {X : Type 0} (found : Option (Bor X)) → is_some (option_copied found) ≡ is_some found
+some_copied None = refl
+some_copied (Some r) = refl
+
+-- texts are numbered as their messages
+pub texts_numbered : (texts : List (Vec ℕ)) (messages : List Message) (k : ℕ) → map (λ (t : Vec ℕ). t.items) texts ≡ map message_text messages → is_some (message_at texts k) ≡ is_some (message_at messages k)
+texts_numbered texts messages k same = numbered_alike (λ (t : Vec ℕ). t.items) message_text texts messages k same
 
 -- texts are those of messages, also by number
 pub same_at : (texts : List (Vec ℕ)) (messages : List Message) (k : ℕ) → map (λ (t : Vec ℕ). t.items) texts ≡ map message_text messages → option_map (λ (t : Vec ℕ). t.items) (message_at texts k) ≡ text_at messages (Some k)

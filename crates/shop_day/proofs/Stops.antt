@@ -1,6 +1,7 @@
 -- What a step and a line come to, where they run to their end and where they are stopped.
 use Rattle.std.proofs.Common.{◌≡◌, ◌∙◌, ◌⊎◌, inl, inr, ℕ, Bool, true, false, List, Option, Some, None, is_some, ap, refl, subst, sym, unwrap_or}
 use Rattle.std.specs.Global.{Vec}
+use Rattle.streams.specs.declared.command.Output.{Output}
 use Rattle.streams.specs.declared.fault.Fault.{Fault}
 use Rattle.streams.specs.declared.fault.Fault.TheVariants.{Device}
 use Rattle.streams.specs.declared.refused.Refused.{Refused}
@@ -21,7 +22,8 @@ use Rattle.world_items.specs.declared.what.What.{What}
 use Rattle.world_items.specs.declared.what.What.TheVariants.{Deliver, Restart}
 use Rattle.shop_day.proofs.Numbers.{none_so, numbered-map}
 use Rattle.shop_day.specs.Done.{DoesLine, IsOutcome, IsWritten, StepsTo}
-use Rattle.shop_day.specs.Lines.{GivesUp, IsFailed, event, event_of, order_in}
+use Rattle.shop_day.specs.Files.{shown_of}
+use Rattle.shop_day.specs.Lines.{GivesUp, IsFailed, IsNoOrder, event, event_of, order_in}
 use Rattle.shop_day.specs.declared.line.Call.TheVariants.{Order, Take, Show}
 use Rattle.shop_day.specs.declared.line.Line.{Line}
 use Rattle.shop_day.specs.declared.outcome.Outcome.{Outcome}
@@ -81,3 +83,17 @@ message_done k at old new outcome there (stop, left, came) =
 pub message_missing : (k at : ℕ) (w : State) → is_some (message_at w.messages k) ≡ false → DoesLine (record { call = Take k; at = at }) w w (GaveUp (Device ReadFailed))
 message_missing k at w none =
     line_stopped (record { call = Take k; at = at }) w (Device ReadFailed) (inr (none_so (message_at (shows w).tags k) (numbered-map tag_of w.messages k ∙ none), refl))
+
+pub order_refused : (name : List ℕ) (bytes : Vec ℕ) (at : ℕ) (w : State) (fault : Fault) (text : List ℕ) → text ≡ bytes.items → IsFailed fault ⊎ IsNoOrder (shows w).shop name text fault → DoesLine (record { call = Order name bytes; at = at }) w w (GaveUp fault)
+order_refused name bytes at w fault text same why =
+    line_stopped (record { call = Order name bytes; at = at }) w fault (subst (λ t. IsFailed fault ⊎ IsNoOrder (shows w).shop name t fault) same why)
+
+-- ---- a look
+
+pub line_looked : (name : List ℕ) (at : ℕ) (w : State) (out : Output) → shown_of w.controllers name ≡ Some out.text.items → out.refused ≡ false → DoesLine (record { call = Show name; at = at }) w w (Wrote out)
+line_looked name at w out shown accepted =
+    (event_of (record { call = Show name; at = at }) (shows w).shop Run, refl, (refl, (refl, (shown, accepted))))
+
+pub look_stopped : (name copied : List ℕ) (at : ℕ) (w new : State) (e : Refused) (fault : Fault) → IsStopped machine (event (Restart copied) at Run) w new → IsEventFault IsKeeperFault IsKeeperFault (λ _. ⊥) e → fault ≡ fault_of e → DoesLine (record { call = Show name; at = at }) w new (GaveUp fault)
+look_stopped name copied at w new e fault (inl same) why told = subst (λ (v : State). DoesLine (record { call = Show name; at = at }) w v (GaveUp fault)) (sym same) (line_stopped (record { call = Show name; at = at }) w fault (failed e fault why told))
+look_stopped name copied at w new e fault (inr same) why told = subst (λ (v : State). DoesLine (record { call = Show name; at = at }) w v (GaveUp fault)) (sym same) (line_stopped (record { call = Show name; at = at }) w fault (failed e fault why told))

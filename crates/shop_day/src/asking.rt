@@ -8,6 +8,7 @@ ghost use Rattle.json_profile.specs.ReadAs.{IsReadAs, IsRefusalOf};
 ghost use Rattle.shop_day.specs.Lines as lines;
 ghost use Rattle.stored_state.specs.Seat.{read_in};
 ghost use Rattle.world.specs.Showing.{shows};
+ghost use Rattle.world.specs.State as state;
 ghost use Rattle.world_items.specs.declared.what.What.TheVariants.{MasterOrder, WorkerOrder};
 
 use controller_form::{master_order_of, worker_order_of};
@@ -73,12 +74,13 @@ pub fn asked_of<K: Keep>(
         ≡ Some what) }
     ensures refused { IfErr result (λ fault. lines.IsFailed fault
         ⊎ lines.IsNoOrder (shows shop.now).shop name.now bytes.now fault) }
+    ensures kept { state.IsConsistent shop.now }
 {
+    // A shop is kept in order: that is known where its messages are named.
+    let _ = shop.messages();
     if name == shop.master_seat().name() {
         return Ok(asked_of_master(alloc, bytes)?);
     }
-    // A shop is kept in order: that is known where its messages are named.
-    let _ = shop.messages();
     if shop.worker_seat(name).is_none() {
         return Err(Fault::Device(Refused::LoadFailed));
     }
