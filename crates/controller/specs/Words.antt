@@ -1,6 +1,6 @@
 -- Messages between controllers (JMF; JDF 1.5, 5): the words and IDs that they are made of.
 use Rattle.std.specs.Prelude.{ℕ, ◌++◌, ◌&&◌, Bool, true, false, List, codes, if◌then◌else◌, nat_le}
-use Rattle.std.specs.Prelude.{Option, Some, None, Result, Ok, Err}
+use Rattle.std.specs.Prelude.{Option, Some, None, Result, Ok, Err, not}
 use Rattle.std.specs.Str.{bytes_eq}
 use Rattle.ticket_items.specs.SpawnId.{spawn_text}
 use Rattle.controller.specs.declared.body.Body.{Body}
@@ -23,17 +23,49 @@ no_place = codes "cid:jdf"
 abbrev pub place_of : List ℕ → List ℕ
 place_of sender = codes "jmf:" ++ sender
 
--- the Type of a command
-abbrev pub type_of : Command → List ℕ
-type_of commands.Submit = codes "SubmitQueueEntry"
-type_of commands.Return = codes "ReturnQueueEntry"
-type_of commands.Abort = codes "AbortQueueEntry"
+-- what the profile says of a command: its Type, what its ID begins with, the name under which its
+-- params stand, whether a part goes with it, and whether it goes to a worker, and its answer to a
+-- master, or the other way round
+pub record CommandRow : Type 0 where
+  pub word : List ℕ
+  pub mark : List ℕ
+  pub params : List ℕ
+  pub has_part : Bool
+  pub is_to_worker : Bool
 
--- what the ID of a command begins with
+-- the table of commands
+abbrev pub row_of : Command → CommandRow
+row_of commands.Submit =
+    record {
+      word = codes "SubmitQueueEntry";
+      mark = codes "Q.";
+      params = codes "QueueSubmissionParams";
+      has_part = true;
+      is_to_worker = true;
+    }
+row_of commands.Return =
+    record {
+      word = codes "ReturnQueueEntry";
+      mark = codes "R.";
+      params = codes "ReturnQueueEntryParams";
+      has_part = true;
+      is_to_worker = false;
+    }
+row_of commands.Abort =
+    record {
+      word = codes "AbortQueueEntry";
+      mark = codes "A.";
+      params = codes "AbortQueueEntryParams";
+      has_part = false;
+      is_to_worker = true;
+    }
+
+-- the Type of a command, and what its ID begins with
+abbrev pub type_of : Command → List ℕ
+type_of c = (row_of c).word
+
 abbrev pub mark_of : Command → List ℕ
-mark_of commands.Submit = codes "Q."
-mark_of commands.Return = codes "R."
-mark_of commands.Abort = codes "A."
+mark_of c = (row_of c).mark
 
 -- the ID of the command of a spawn
 abbrev pub command_id : Command → ℕ → List ℕ
@@ -76,6 +108,12 @@ command_in (Submit part) = commands.Submit
 command_in (Return part) = commands.Return
 command_in (Abort spawn) = commands.Abort
 command_in (Answer asked spawn result) = asked
+
+-- whether a message is one for a worker, else for a master: a command goes as its row says, and
+-- the answer to it the other way
+abbrev pub is_for_worker : Body → Bool
+is_for_worker (Answer asked spawn result) = not (row_of asked).is_to_worker
+is_for_worker body = (row_of (command_in body)).is_to_worker
 
 -- the spawn that it is about
 abbrev pub spawn_in : Body → ℕ

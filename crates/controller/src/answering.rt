@@ -3,6 +3,7 @@
 ghost use Rattle.std.specs.Prelude.{◌≡◌, true, IfOk, IsOk};
 ghost use Rattle.controller.specs.Reply as replies;
 ghost use Rattle.controller.specs.Step as steps;
+ghost use Rattle.controller.specs.Words as words;
 
 use crate::body::Body;
 use crate::command::Command;
@@ -37,6 +38,19 @@ pub fn command_given(body: &Body) -> Option<Command>
     }
 }
 
+/// Whether a message is one for a worker, else for a master: a command goes as its row says, and
+/// the answer to it the other way.
+pub fn is_for_worker(body: &Body) -> bool
+    ensures { result ≡ words.is_for_worker body.now }
+{
+    match body {
+        Body::Submit(_) => Command::Submit.row().is_to_worker,
+        Body::Return(_) => Command::Return.row().is_to_worker,
+        Body::Abort(_) => Command::Abort.row().is_to_worker,
+        Body::Answer { of, .. } => !of.row().is_to_worker,
+    }
+}
+
 /// The answer of the controller of a name to a message, at a time in seconds since 1970: to a
 /// command it goes back to the sender and says what is told, and to an answer there is none, which
 /// takes no memory.
@@ -48,7 +62,7 @@ pub fn answer_to(
     response: Result<QueueStatus, u16>,
 ) -> Result<Option<Message>, AllocError>
     // Proved: A command is answered to its sender; an answer isn't, which takes no memory.
-    // By `answer`, `answers`; `spawn_in`, `command_given`.
+    // By `answer`, `answers`; `spawn_in`, `command_given`, `is_for_worker`.
     ensures answer { IfOk result (λ answer. answer
         ≡ replies.answer_to name.now message.now at response) }
     ensures answers { replies.is_answer message.now.body ≡ true → IsOk result }

@@ -5,6 +5,7 @@
 pub mod answering;
 mod body;
 mod command;
+mod command_row;
 mod controller;
 mod done;
 mod message;
@@ -14,6 +15,7 @@ mod taken;
 
 pub use body::Body;
 pub use command::Command;
+pub use command_row::CommandRow;
 pub use controller::Controller;
 pub use done::Done;
 pub use message::Message;

@@ -1,3 +1,4 @@
+pub mod AtPath
 mod GivenBack
 mod JournalLines
 mod LinesJoined

@@ -1,5 +1,6 @@
 pub mod Beginning
 pub mod Clients
+pub mod InEtcd
 pub mod Journaled
 pub mod Lines
 pub mod Orders

@@ -12,7 +12,9 @@ mod accepting;
 mod building;
 mod calling;
 mod clients;
+mod engine;
 mod entry;
+mod etcd_steps;
 mod giving_back;
 mod health;
 mod hearing;
@@ -38,7 +40,7 @@ mod turns;
 mod watched;
 mod watching;
 
+pub use etcd_steps::check_path;
 pub use post::Post;
 pub use server::Server;
 pub use service::Service;
-pub use stepping::check_file;

@@ -10,13 +10,14 @@ ghost use Rattle.jdf_server.specs.Steps.{StepsLineTo, StepsThere, WaitsOn};
 ghost use Rattle.std.specs.Option.{option_map};
 
 use crate::entry::Entry;
+use crate::etcd_steps::step_at;
 use crate::hearing::hear_all;
 use crate::line::Line;
 use crate::own::Own;
 use crate::post::Post;
 use crate::route::{Route, route_of};
 use crate::server::Server;
-use crate::stepping::{StepsResult, begin_in_file, is_missing, step_in_file};
+use crate::stepping::{StepsResult, begin_in_file, is_missing};
 use controller::{Body, Message};
 use http_edge::Received;
 use http_message::lone_field;
@@ -336,7 +337,7 @@ impl<'a, R: Locks + Net + Clock, F: Write + Drop> Server<'a, R, F> {
         } = line;
         let addressee = to.as_addressee();
         let mut journal = FileJournal::at(self.rt, self.journal);
-        let stepped = step_in_file(
+        let stepped = step_at(
             self.rt,
             self.alloc,
             path.as_str(),
@@ -344,6 +345,7 @@ impl<'a, R: Locks + Net + Clock, F: Write + Drop> Server<'a, R, F> {
             addressee,
             errands,
             self.clients.now,
+            &mut self.engine,
             &mut journal,
         )?;
         self.clients.tell_missed(&journal);

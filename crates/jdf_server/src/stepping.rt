@@ -13,13 +13,13 @@ use crate::journaling::{
 use journal::{Journal, seconds};
 use keepers::{FileKeep, Keep, KeepFault, Locks};
 use mio::net::TcpStream;
-use rounds::{AnsweredClient, Errand, Room, answer_all, refuse_errands};
+use rounds::{AnsweredClient, Errand, Room, RoundKeep, answer_all, refuse_errands};
 use std::alloc::{AllocError, Global};
 use std::fs;
 use std::io::ErrorKind;
 use std::rt::Files;
 use std::time::Clock;
-use stored_state::{Addressee, Coming, Kept, SavedState, Snapshot, TakenBytes, open_any, take_all};
+use stored_state::{Addressee, Coming, Kept, SavedState, Snapshot, TakenBytes, open_any};
 use streams::Refused;
 use ticket_tree::{Duplicate, Id, Refusal};
 use worker_core::Worker;
@@ -46,7 +46,7 @@ pub(crate) fn is_missing<R: Files>(rt: &R, path: &str) -> bool {
 /// addressed, by its steps at the time of the clock; each is refused where that tells no time since
 /// 1970. The lines of the steps are appended to the journal behind the save, and then the keeper is
 /// let go.
-fn step_kept<R: Clock, K: Keep, J: Journal, S: Drop>(
+pub(crate) fn step_kept<R: Clock, K: RoundKeep, J: Journal, S: Drop>(
     rt: &R,
     alloc: Global,
     mut keep: K,
@@ -171,7 +171,7 @@ pub(crate) enum OwnStepResult {
 /// The steps of the controller that a keeper holds, if that is one that is addressed, at a time, by
 /// what comes that no client waits for. Their lines are appended to the journal behind the save,
 /// and then the keeper is let go.
-fn step_own_kept<K: Keep, J: Journal>(
+pub(crate) fn step_own_kept<K: RoundKeep, J: Journal>(
     alloc: Global,
     mut keep: K,
     last: Option<SavedState>,
@@ -185,7 +185,7 @@ fn step_own_kept<K: Keep, J: Journal>(
         → KeepsOwnJournal J.held J.is_missed at all.items journal.old journal.new result }
 {
     let calls = calls_of_comings(alloc, journal, all.as_slice());
-    match take_all(alloc, &mut keep, last, to, all, at) {
+    match keep.take_round(alloc, last, to, all, at) {
         Ok((given, saved)) => {
             journal_own_steps(alloc, journal, calls, given.as_slice(), &saved, at);
             OwnStepResult::Stepped(given, saved)
@@ -196,7 +196,7 @@ fn step_own_kept<K: Keep, J: Journal>(
 
 /// The same, where the keeper was found so: nothing is done where somebody else has it locked, or
 /// where it can't be locked.
-fn step_own_found<K: Keep, J: Journal>(
+fn step_own_found<K: RoundKeep, J: Journal>(
     alloc: Global,
     found: Result<Option<K>, KeepFault>,
     last: Option<SavedState>,
@@ -230,7 +230,7 @@ pub(crate) fn step_own_in_file<R: Locks + Clock, J: Journal>(
     step_own_found(alloc, found, last, to, all, at, journal)
 }
 
-/// What is found in a file.
+/// What is found in a file, or under a key.
 #[derive(Drop)]
 pub(crate) enum Look {
     /// The controller that is addressed.
@@ -241,6 +241,8 @@ pub(crate) enum Look {
     Nothing,
     /// Somebody else has it locked.
     LockedOut,
+    /// The engine that keeps it doesn't tell.
+    Unanswered,
 }
 
 /// Whether a keeper holds the text that was saved last.
@@ -252,7 +254,7 @@ fn holds_saved<K: Keep>(keep: &mut K, last: &Option<SavedState>) -> bool {
 }
 
 /// What the keeper holds that was found so, if that is the controller that is addressed.
-fn look_at<K: Keep>(
+pub(crate) fn look_at<K: Keep>(
     alloc: Global,
     found: Result<Option<K>, KeepFault>,
     to: Addressee<'_>,
@@ -285,7 +287,10 @@ pub(crate) fn look_in_file<R: Locks>(
 }
 
 /// Whether a controller can be loaded of the keeper that was found so. Refuses as `check_file`.
-fn check_found<K: Keep>(alloc: Global, found: Result<K, KeepFault>) -> Result<(), Refused> {
+pub(crate) fn check_found<K: Keep>(
+    alloc: Global,
+    found: Result<K, KeepFault>,
+) -> Result<(), Refused> {
     match found {
         Ok(keep) => open_any(alloc, keep)?,
         Err(_) => return Err(Refused::LoadFailed),
@@ -295,6 +300,6 @@ fn check_found<K: Keep>(alloc: Global, found: Result<K, KeepFault>) -> Result<()
 
 /// Whether a controller can be loaded of a file. Refuses `LoadFailed`, what the file holds is
 /// refused for, and `Memory`.
-pub fn check_file<R: Locks>(rt: &R, alloc: Global, file: &str) -> Result<(), Refused> {
+pub(crate) fn check_file<R: Locks>(rt: &R, alloc: Global, file: &str) -> Result<(), Refused> {
     check_found(alloc, FileKeep::lock(rt, alloc, file))
 }

@@ -1,10 +1,12 @@
 //! The files of what is served, and the peers' file, as they change beside the server.
 
+use crate::etcd_steps::look_at_path;
 use crate::houses::Houses;
 use crate::lines::keep_in;
 use crate::post::Post;
 use crate::server::Server;
-use crate::stepping::{Look, look_in_file};
+use crate::stepping::Look;
+use etcd_place::is_etcd;
 use keepers::Locks;
 use peers_file::peers_in_file;
 use shop_folder::{FolderFile, Owner, Place, files_in};
@@ -26,6 +28,15 @@ const READ_TIME: u64 = 50;
 pub(crate) fn changed_at<R: Files>(rt: &R, path: &str) -> Option<SystemTime> {
     let there = fs::metadata(rt, path).ok()?;
     there.modified().ok()
+}
+
+/// What tells of a controller's file or key whether it is to be read again: when the file was
+/// changed. No time is told of a key, which is read at each look.
+fn mark_of<R: Files + Clock>(rt: &R, path: &str) -> Option<SystemTime> {
+    if is_etcd(path) {
+        return SystemTime::now(rt).ok();
+    }
+    changed_at(rt, path)
 }
 
 /// What is served, as files.
@@ -130,7 +141,7 @@ impl<'a, R: Locks + Net + Clock + Alloc + Clone + Drop, F: Write + Drop> Server<
         };
         self.watched.forget_places();
         for FolderFile { path, owner } in files {
-            let changed = changed_at(self.rt, path.as_str());
+            let changed = mark_of(self.rt, path.as_str());
             self.watched.notice(path, owner, changed)?;
         }
         Ok(())
@@ -160,7 +171,7 @@ impl<'a, R: Locks + Net + Clock + Alloc + Clone + Drop, F: Write + Drop> Server<
         match (look, last) {
             (Look::Found(found), _) => self.see_controller(number, found.controller()),
             (Look::Same, Some(saved)) => self.see_controller(number, saved.controller()),
-            (Look::LockedOut, _) => {
+            (Look::LockedOut | Look::Unanswered, _) => {
                 if let Some(seat) = self.watched.controllers.get_index_mut(number) {
                     seat.seen_at = None;
                 }
@@ -181,7 +192,8 @@ impl<'a, R: Locks + Net + Clock + Alloc + Clone + Drop, F: Write + Drop> Server<
         };
         let last = self.saved.take(path.as_str());
         let to = seat.owner.as_addressee();
-        let look = look_in_file(self.rt, self.alloc, path.as_str(), to, &last);
+        let (rt, engine) = (self.rt, &mut self.engine);
+        let look = look_at_path(rt, self.alloc, path.as_str(), to, &last, engine);
         let path = path.clone()?;
         let seen = self.see_look(number, &look, &last);
         drop(look);

@@ -16,7 +16,7 @@ use Rattle.ticket_items.specs.Names.{is_name}
 use Rattle.ticket_items.specs.SpawnId.{is_spawn_number}
 use Rattle.ticket_items.specs.declared.refusal.Refusal.TheVariants.{NotProfile}
 use Rattle.ticket_tree.specs.Part.{PartCopy}
-use Rattle.controller.specs.Words.{may_be_sent, version}
+use Rattle.controller.specs.Words.{may_be_sent, row_of, version}
 use Rattle.controller.specs.declared.body.Body.{Body}
 use Rattle.controller.specs.declared.body.Body.TheVariants as bodies
 use Rattle.controller.specs.declared.command.Command.{Command}
@@ -25,7 +25,7 @@ use Rattle.controller.specs.declared.message.Message.{Message}
 use Rattle.controller.specs.declared.queue_status.QueueStatus.{QueueStatus}
 use Rattle.controller.specs.declared.queue_status.QueueStatus.TheVariants.{Running, Completed, Aborted}
 use Rattle.jmf_message.specs.Decoded.{body_of, body_with, body_with_part, draft_read, message_fault, message_read, message_saying, message_with}
-use Rattle.jmf_message.specs.Form.{RawJmf, RawMessage, document_form, has_part, is_command, is_response, jmf_form, part_beside}
+use Rattle.jmf_message.specs.Form.{RawJmf, RawMessage, document_form, is_command, is_response, jmf_form, part_beside}
 use Rattle.jmf_message.specs.Known.{IsKnown, IsWritten}
 use Rattle.jmf_message.specs.Family.{can_be_sent, command_in, command_in_params, confirmed_command, confirmed_family, confirmed_response, response_in, says}
 use Rattle.jmf_message.specs.Written.{command_data, family_of, jmf_data, message_data, put_said, response_data, said_data, spawn_said}
@@ -91,7 +91,7 @@ response_again sender asked n told valid may =
 -- ---- JMF objects
 
 abbrev takes_part : Family → Bool
-takes_part (said.Command asked spawn) = has_part asked
+takes_part (said.Command asked spawn) = (row_of asked).has_part
 takes_part (said.Answer asked spawn told) = false
 
 abbrev jmf_with : Message → Bool → Option Family → RawJmf

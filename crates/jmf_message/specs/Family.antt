@@ -8,10 +8,10 @@ use Rattle.serde_json.specs.Data.{unsigned}
 use Rattle.serde_json.specs.Find.{as_str, get}
 use Rattle.json_source.specs.Read.{◌>>=◌, some_if, number_of, number_under, text_under}
 use Rattle.ticket_items.specs.SpawnId.{spawn_of}
-use Rattle.controller.specs.Words.{command_named, is_reason, is_told, mark_of, status_named}
+use Rattle.controller.specs.Words.{command_named, is_reason, is_told, mark_of, row_of, status_named}
 use Rattle.controller.specs.declared.command.Command.{Command}
 use Rattle.controller.specs.declared.queue_status.QueueStatus.{QueueStatus}
-use Rattle.jmf_message.specs.Written.{params_name, said_data}
+use Rattle.jmf_message.specs.Written.{said_data}
 use Rattle.jmf_message.specs.declared.family.Family.{Family}
 use Rattle.jmf_message.specs.declared.family.Family.TheVariants as said
 
@@ -40,7 +40,7 @@ confirmed_family sender d s = some_if (says (said_data sender s) d) >>= λ _. So
 abbrev pub spawn_in_params : Command → Data → Option ℕ
 spawn_in_params asked d =
     option_and_then spawn_of
-    (option_and_then (text_under (codes "QueueEntryID")) (get (params_name asked) d))
+    (option_and_then (text_under (codes "QueueEntryID")) (get (row_of asked).params d))
 
 -- what such a command asks of the spawn
 abbrev pub command_in_params : Command → Data → Option Family

@@ -9,10 +9,11 @@ use Rattle.serde_json.specs.Data.{Data}
 use Rattle.serde_json.specs.Find.{get}
 use Rattle.json_items.specs.PartDraft.{RawPart, part_form}
 use Rattle.json_source.specs.Read.{◌>>=◌, some_if, has_only, number_under, text_under}
+use Rattle.controller.specs.Words.{row_of}
 use Rattle.controller.specs.declared.command.Command.{Command}
 use Rattle.controller.specs.declared.command.Command.TheVariants.{Submit, Return, Abort}
 use Rattle.jmf_message.specs.Family.{confirmed_command, confirmed_response}
-use Rattle.jmf_message.specs.Written.{params_name, params_texts}
+use Rattle.jmf_message.specs.Written.{params_texts}
 use Rattle.jmf_message.specs.declared.family.Family.{Family}
 
 -- ---- objects of texts
@@ -33,9 +34,9 @@ params_names asked = keys_of (params_texts [] asked 0)
 
 -- whether data is such a command
 unfoldable pub is_command : Command → Data → Bool
-is_command asked d = has_only (params_name asked ∷ codes "ID" ∷ codes "Type" ∷ []) d
+is_command asked d = has_only ((row_of asked).params ∷ codes "ID" ∷ codes "Type" ∷ []) d
     && are_texts (codes "ID" ∷ codes "Type" ∷ []) d
-    && option_map_or (is_of_texts (params_names asked)) (get (params_name asked) d) false
+    && option_map_or (is_of_texts (params_names asked)) (get (row_of asked).params d) false
 
 -- the command that data is
 abbrev pub command_form : Data → Option Command
@@ -43,12 +44,6 @@ command_form d =
     if is_command Submit d then Some Submit else
     (if is_command Return d then Some Return else
     (if is_command Abort d then Some Abort else None))
-
--- whether a part goes with a command: it does where one is submitted or returned
-abbrev pub has_part : Command → Bool
-has_part Submit = true
-has_part Return = true
-has_part Abort = false
 
 -- ---- responses
 
@@ -73,7 +68,7 @@ is_response d = has_only response_members d
 -- by it, if it is what a message may say
 abbrev pub one_family : List ℕ → Option Data → Option Data → Option (Bool × Option Family)
 one_family sender (Some d) None =
-    option_map (λ asked. (has_part asked, confirmed_command sender asked d)) (command_form d)
+    option_map (λ asked. ((row_of asked).has_part, confirmed_command sender asked d)) (command_form d)
 one_family sender None (Some d) =
     if is_response d then Some (false, confirmed_response sender d) else None
 one_family sender None None = None

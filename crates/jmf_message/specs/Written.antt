@@ -8,7 +8,7 @@ use Rattle.json_text.specs.PartWritten.{part_data}
 use Rattle.ticket_items.specs.Attrs.{Pairs}
 use Rattle.ticket_items.specs.SpawnId.{spawn_text}
 use Rattle.controller.specs.Words.{answer_id, command_id, no_place, place_of, status_word}
-use Rattle.controller.specs.Words.{type_of, version}
+use Rattle.controller.specs.Words.{row_of, type_of, version}
 use Rattle.controller.specs.declared.body.Body.{Body}
 use Rattle.controller.specs.declared.body.Body.TheVariants as bodies
 use Rattle.controller.specs.declared.command.Command.{Command}
@@ -19,12 +19,6 @@ use Rattle.jmf_message.specs.declared.family.Family.{Family}
 use Rattle.jmf_message.specs.declared.family.Family.TheVariants as said
 
 -- ---- commands
-
--- the name under which the params of a command stand
-abbrev pub params_name : Command → List ℕ
-params_name Submit = codes "QueueSubmissionParams"
-params_name Return = codes "ReturnQueueEntryParams"
-params_name Abort = codes "AbortQueueEntryParams"
 
 -- the params of a sender's command of a spawn (that of an abort is our own)
 abbrev pub params_texts : List ℕ → Command → ℕ → Pairs
@@ -38,7 +32,7 @@ params_texts sender Abort spawn = (codes "QueueEntryID", spawn_text spawn) ∷ [
 -- a sender's command of a spawn; its params stand in the byte order of the names
 abbrev pub command_data : List ℕ → Command → ℕ → Data
 command_data sender asked spawn =
-    object (put (params_name asked) (attrs_data (params_texts sender asked spawn))
+    object (put (row_of asked).params (attrs_data (params_texts sender asked spawn))
     (member (codes "ID") (string (command_id asked spawn))
     (member (codes "Type") (string (type_of asked)) no_members)))
 

@@ -5,6 +5,7 @@ ghost use Rattle.std.specs.Option.{option_map_or};
 ghost use Rattle.serde_json.specs.Find.{get};
 ghost use Rattle.ticket_items.specs.SpawnId.{is_spawn_number};
 ghost use Rattle.json_items.specs.Attributes.{attrs_data};
+ghost use Rattle.controller.specs.Words.{row_of};
 ghost use Rattle.jmf_message.specs.Form as forms;
 ghost use Rattle.jmf_message.specs.Items.{item_data};
 ghost use Rattle.jmf_message.specs.Family as said;
@@ -22,18 +23,7 @@ use ticket_tree::SpawnId;
 /// A URL that names no place.
 const NO_PLACE: &str = "cid:jdf";
 
-/// The name under which the params of a command stand.
-fn params_name(asked: Command) -> &'static str
-    ensures { result.now ≡ written.params_name asked }
-{
-    match asked {
-        Command::Submit => "QueueSubmissionParams",
-        Command::Return => "ReturnQueueEntryParams",
-        Command::Abort => "AbortQueueEntryParams",
-    }
-}
-
-/// The names of its params.
+/// The names of a command's params.
 fn params_names(asked: Command) -> &'static [&'static str]
     ensures { map (λ n. n.now) result.now ≡ forms.params_names asked }
 {
@@ -47,9 +37,9 @@ fn params_names(asked: Command) -> &'static [&'static str]
 /// Whether such params stand among a command's members.
 fn has_params<S: Source>(command: &S, asked: Command) -> bool
     ensures { result ≡ option_map_or (forms.is_of_texts (forms.params_names asked))
-        (get (written.params_name asked) (S.content command.now)) false }
+        (get (row_of asked).params (S.content command.now)) false }
 {
-    let params = command.member(params_name(asked));
+    let params = command.member(asked.row().params);
     params.is_some_and(|params| is_of_texts(params, params_names(asked)))
 }
 
@@ -58,7 +48,7 @@ fn has_params<S: Source>(command: &S, asked: Command) -> bool
 fn is_command<S: Source>(value: &S, asked: Command) -> bool
     ensures { result ≡ forms.is_command asked (S.content value.now) }
 {
-    value.has_only(&[params_name(asked), "ID", "Type"])
+    value.has_only(&[asked.row().params, "ID", "Type"])
         && are_texts(value, &["ID", "Type"])
         && has_params(value, asked)
 }
@@ -72,19 +62,12 @@ pub fn command_of<S: Source>(value: &S) -> Option<Command>
         .find(|asked| is_command(value, *asked))
 }
 
-/// Whether a part goes with a command.
-pub fn has_part(asked: Command) -> bool
-    ensures { result ≡ forms.has_part asked }
-{
-    matches!(asked, Command::Submit | Command::Return)
-}
-
 /// What such a command asks of the spawn that its params name. It may be sent.
 pub fn command_asked<S: Source>(asked: Command, command: &S) -> Option<Family>
     ensures value { result ≡ said.command_in_params asked (S.content command.now) }
     ensures sent { IfSome result (λ s. said.can_be_sent s ≡ true) }
 {
-    let params = command.member(params_name(asked))?;
+    let params = command.member(asked.row().params)?;
     let spawn = SpawnId::parse(text_under(params, "QueueEntryID")?).ok()?;
     Some(Family::Command(asked, spawn))
 }
@@ -127,8 +110,8 @@ pub fn command_item(
     let id = command_id(alloc, asked, spawn)?;
     let id = ("ID", text(alloc, id.as_str())?);
     let params = params_item(alloc, sender, asked, spawn)?;
-    let params = (params_name(asked), params);
-    let kind = ("Type", text(alloc, asked.word())?);
+    let params = (asked.row().params, params);
+    let kind = ("Type", text(alloc, asked.row().word)?);
     match asked {
         Command::Submit | Command::Return => Ok(object(vec![in alloc; id, params, kind]?)),
         Command::Abort => Ok(object(vec![in alloc; params, id, kind]?)),

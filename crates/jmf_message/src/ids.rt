@@ -14,7 +14,7 @@ pub fn command_id(alloc: Global, asked: Command, spawn: SpawnId) -> Result<Strin
     ensures id { IfOk result (λ id. string_bytes id ≡ words.command_id asked spawn) }
     ensures valid { is_spawn_number spawn ≡ true }
 {
-    format!(in alloc; "{}S{}", asked.mark(), spawn.number())
+    format!(in alloc; "{}S{}", asked.row().mark, spawn.number())
 }
 
 /// The ID of the answer to the command of a spawn.
@@ -22,7 +22,7 @@ pub fn answer_id(alloc: Global, asked: Command, spawn: SpawnId) -> Result<String
     ensures id { IfOk result (λ id. string_bytes id ≡ words.answer_id asked spawn) }
     ensures valid { is_spawn_number spawn ≡ true }
 {
-    format!(in alloc; "{}S{}.a", asked.mark(), spawn.number())
+    format!(in alloc; "{}S{}.a", asked.row().mark, spawn.number())
 }
 
 /// A message's ID: of a command `Q.`, `R.` or `A.` and its spawn's id, of an answer the command's

@@ -7,7 +7,7 @@ ghost use Rattle.jmf_message.specs.Items.{item_data};
 ghost use Rattle.jmf_message.specs.Family as said;
 ghost use Rattle.jmf_message.specs.Written as written;
 
-use crate::commands::{command_asked, command_of, has_part};
+use crate::commands::{command_asked, command_of};
 use crate::family::{Family, confirmed_family, family_item, family_of};
 use crate::items::{Item, number, object, text};
 use crate::responses::{answer_in, is_response};
@@ -78,7 +78,7 @@ fn family_in<S: Source>(
             let asked = command_of(command).ok_or(Refusal::NotProfile)?;
             let said = command_asked(asked, command);
             Ok((
-                has_part(asked),
+                asked.row().has_part,
                 confirmed_family(alloc, sender, said, command)?,
             ))
         }

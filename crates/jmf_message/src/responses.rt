@@ -73,7 +73,7 @@ pub fn answer_in<S: Source>(response: &S) -> Option<Family>
     ensures sent { IfSome result (λ s. said.can_be_sent s ≡ true) }
 {
     let asked = Command::of_type(text_under(response, "Type")?)?;
-    let number = behind(asked.mark(), text_under(response, "refID")?)?;
+    let number = behind(asked.row().mark, text_under(response, "refID")?)?;
     let spawn = SpawnId::parse(number).ok()?;
     Some(Family::Answer(asked, spawn, response_in(response)?))
 }
@@ -101,7 +101,7 @@ pub fn response_item(
     ensures valid { is_spawn_number spawn ≡ true }
 {
     let id = ("ID", text(alloc, answer_id(alloc, asked, spawn)?.as_str())?);
-    let kind = ("Type", text(alloc, asked.word())?);
+    let kind = ("Type", text(alloc, asked.row().word)?);
     let reference = command_id(alloc, asked, spawn)?;
     let reference = ("refID", text(alloc, reference.as_str())?);
     match told {

@@ -29,9 +29,9 @@ pub fn message_word(body: &Body) -> &'static str
     ensures { result.now ≡ whats.message_word body.now }
 {
     match body {
-        Body::Submit(_) => Command::Submit.word(),
-        Body::Return(_) => Command::Return.word(),
-        Body::Abort(_) => Command::Abort.word(),
+        Body::Submit(_) => Command::Submit.row().word,
+        Body::Return(_) => Command::Return.row().word,
+        Body::Abort(_) => Command::Abort.row().word,
         Body::Answer { of, .. } => answer_word(*of),
     }
 }

@@ -33,7 +33,7 @@ use Rattle.world_items.specs.declared.holder.Holder.TheVariants as held_by
 use Rattle.spawn.proofs.PartKept.{mapped_some}
 use Rattle.merge.specs.Alike.{is_fit}
 use Rattle.master_core.specs.Master.{State, holder, is_spawn_out, next_number, record_of}
-use Rattle.master_core.specs.Messages.{body_refusal, is_for_masters, record_refusal, return_refusal, take_refusal}
+use Rattle.master_core.specs.Messages.{body_refusal, is_for_worker, record_refusal, return_refusal, take_refusal}
 use Rattle.master_core.specs.Orders.{allowed_step, edit_refusal, held_refusal, not_held, order_refusal, order_step}
 use Rattle.world_items.specs.declared.master_order.Order.{Order}
 use Rattle.world_items.specs.declared.master_order.Order.TheVariants as order
@@ -138,7 +138,7 @@ sent_free false l e = cc
 -- what it says
 pub take_free : (m : Message) (w : State) → take_refusal m w ≡ None → (r : SpawnRec) × (record_of w.records (spawn_in m.body) ≡ Some r) × (body_refusal m.body w r ≡ None)
 take_free m w none =
-    let there = record_there (record_refusal m w) (record_of w.records (spawn_in m.body)) (bytes_eq m.receiver w.name && is_for_masters m.body) none in
+    let there = record_there (record_refusal m w) (record_of w.records (spawn_in m.body)) (bytes_eq m.receiver w.name && not (is_for_worker m.body)) none in
     (there.0, there.1, sent_free (bytes_eq m.sender there.0.worker) (body_refusal m.body w there.0) there.2)
 
 fit_if_out : (phase : Phase) (fit : Bool) → return_refusal phase fit ≡ None → is_out_phase phase ≡ true → fit ≡ true

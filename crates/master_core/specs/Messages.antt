@@ -1,6 +1,6 @@
 -- What a master does with a message, whoever sent it and whatever it says: why it is refused, and
 -- else what comes of it.
-use Rattle.std.specs.Prelude.{ℕ, ◌&&◌, ◌==◌, Bool, true, false, [], ◌∷◌, codes, ⊤}
+use Rattle.std.specs.Prelude.{ℕ, ◌&&◌, ◌==◌, Bool, true, false, not, [], ◌∷◌, codes, ⊤}
 use Rattle.std.specs.Prelude.{if◌then◌else◌, Option, Some, None, Result, Ok, Err, slice_get}
 use Rattle.std.specs.Option.{option_map_or}
 use Rattle.std.specs.Str.{bytes_eq}
@@ -14,6 +14,7 @@ use Rattle.ticket_rows.specs.Ticket.{IsValid, first_of, unless}
 use Rattle.ticket_tree.specs.Part.{PartCopy}
 use Rattle.controller.specs.Reply.{spawn_in}
 use Rattle.controller.specs.Step.{Step, Taking, message_step}
+pub use Rattle.controller.specs.Words.{is_for_worker}
 use Rattle.controller.specs.declared.body.Body.{Body}
 use Rattle.controller.specs.declared.body.Body.TheVariants.{Submit, Return, Abort, Answer}
 use Rattle.controller.specs.declared.command.Command.{Command}
@@ -32,21 +33,6 @@ use Rattle.merge.specs.Withdrawal.{job_after_withdrawal}
 use Rattle.master_core.specs.Master.{State, record_of, with_merged, with_withdrawn}
 
 -- ---- refusals
-
--- whether the answer to a command is for a master: one to a part that went out is, and one to a
--- spawn that was to be given up
-abbrev pub is_of_masters : Command → Bool
-is_of_masters command.Submit = true
-is_of_masters command.Return = false
-is_of_masters command.Abort = true
-
--- whether a message is one for a master: a part that comes back, or the answer to what a master
--- sends
-abbrev pub is_for_masters : Body → Bool
-is_for_masters (Submit p) = false
-is_for_masters (Return p) = true
-is_for_masters (Abort s) = false
-is_for_masters (Answer c s response) = is_of_masters c
 
 -- why a part that comes back is refused, if it is, by the phase of its spawn and whether it fits:
 -- it has to fit while the spawn is out, isn't looked at once that is merged, and isn't wanted once
@@ -72,7 +58,7 @@ record_refusal m w r =
 abbrev pub take_refusal : Message → State → Option Refusal
 take_refusal m w =
     first_of
-    (unless (bytes_eq m.receiver w.name && is_for_masters m.body) WrongMessage
+    (unless (bytes_eq m.receiver w.name && not (is_for_worker m.body)) WrongMessage
     ∷ option_map_or (record_refusal m w) (record_of w.records (spawn_in m.body)) (Some UnknownSpawn)
     ∷ [])
 

@@ -13,28 +13,12 @@ ghost use Rattle.master_core.specs.Messages as messages;
 
 use crate::master::Master;
 use crate::records::{is_spawn_out, place_of, record_of};
-use controller::answering::spawn_in;
+use controller::answering::{is_for_worker, spawn_in};
 use controller::{Body, Command, Message, QueueStatus, Reply, Taken};
 use merge::{fits, merge_fitting};
 use spawn::{Phase, SpawnRec};
 use std::alloc::{AllocError, Global};
 use ticket_tree::{Part, Refusal, SpawnId, Ticket};
-
-/// Whether a message is one for a master.
-fn is_for_masters(body: &Body) -> bool
-    ensures { result ≡ messages.is_for_masters body.now }
-{
-    match body {
-        Body::Submit(_) => false,
-        Body::Return(_) => true,
-        Body::Abort(_) => false,
-        Body::Answer { of, .. } => match of {
-            Command::Submit => true,
-            Command::Return => false,
-            Command::Abort => true,
-        },
-    }
-}
 
 /// Why a part that comes back from a spawn is refused.
 fn return_refusal(ticket: &Ticket, spawn: &SpawnRec, part: &Part) -> Option<Refusal>
@@ -110,7 +94,7 @@ impl Master {
     fn take_refusal(&self, message: &Message) -> Option<Refusal>
         ensures { result ≡ messages.take_refusal message.now self.now }
     {
-        if message.receiver != *self.name() || !is_for_masters(&message.body) {
+        if message.receiver != *self.name() || is_for_worker(&message.body) {
             return Some(Refusal::WrongMessage);
         }
         match record_of(self.records(), spawn_in(&message.body)) {

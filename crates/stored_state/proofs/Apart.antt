@@ -34,7 +34,7 @@ master_apart at m w apart = rw (differ m.receiver w.name (λ is. apart (sym is))
 worker_apart : (at : ℕ) (m : Message) (w : workers.State) → w.master ≢ m.sender → (worker_messages.take_step m at w).next ≡ w
 worker_apart at m w apart =
     rw (differ m.sender w.master (λ is. apart (sym is)))
-    (refused_next w.name m at (unless (bytes_eq m.receiver w.name && worker_messages.is_for_workers m.body) WrongMessage) WrongSender (worker_messages.body_refusal m.body w.entries ∷ []) w (worker_messages.on_body m.body at w))
+    (refused_next w.name m at (unless (bytes_eq m.receiver w.name && worker_messages.is_for_worker m.body) WrongMessage) WrongSender (worker_messages.body_refusal m.body w.entries ∷ []) w (worker_messages.on_body m.body at w))
 
 pub jobs_apart : JobsStayApart
 jobs_apart at m (of_master w) sent taken = ap of_master (master_apart at m w taken)

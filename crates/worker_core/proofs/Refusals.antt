@@ -14,7 +14,7 @@ use Rattle.ticket_rows.specs.Ticket.{first_of, unless}
 use Rattle.ticket_tree.specs.Part.{PartCopy, refusal_of_part}
 use Rattle.controller.specs.Step.{unless_refused}
 use Rattle.controller.specs.declared.message.Message.{Message}
-use Rattle.worker_core.specs.Messages.{body_refusal, is_for_workers, take_refusal}
+use Rattle.worker_core.specs.Messages.{body_refusal, is_for_worker, take_refusal}
 use Rattle.worker_core.specs.Orders.{allowed_step, edit_refusal, entry_refusal, is_here, is_to_read, order_refusal, order_step, part_edit_refusal, resend_refusal, spawn_of_order, work_refusal}
 use Rattle.worker_core.specs.Worker.{State, entry_of, is_closed, is_declined, is_open, open_part}
 use Rattle.worker_core.specs.declared.entry.Entry.{Entry}
@@ -138,11 +138,11 @@ three_none false b l e = cc
 
 -- a message that isn't refused isn't refused for what it says
 pub body_free : (m : Message) (w : State) → take_refusal m w ≡ None → body_refusal m.body w.entries ≡ None
-body_free m w none = (three_none (bytes_eq m.receiver w.name && is_for_workers m.body) (bytes_eq m.sender w.master) (body_refusal m.body w.entries) none).2
+body_free m w none = (three_none (bytes_eq m.receiver w.name && is_for_worker m.body) (bytes_eq m.sender w.master) (body_refusal m.body w.entries) none).2
 
 -- it is for the worker, and from its master
 abbrev pub is_for : Message → State → Bool
-is_for m w = bytes_eq m.receiver w.name && is_for_workers m.body
+is_for m w = bytes_eq m.receiver w.name && is_for_worker m.body
 
 abbrev pub is_from : Message → State → Bool
 is_from m w = bytes_eq m.sender w.master

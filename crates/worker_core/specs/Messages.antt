@@ -11,10 +11,9 @@ use Rattle.ticket_rows.specs.Copies.{with_copies}
 use Rattle.ticket_rows.specs.Ticket.{IsValid, first_of, unless}
 use Rattle.ticket_tree.specs.Part.{PartCopy, is_sound}
 use Rattle.controller.specs.Step.{Step, Taking, message_step}
+pub use Rattle.controller.specs.Words.{is_for_worker}
 use Rattle.controller.specs.declared.body.Body.{Body}
 use Rattle.controller.specs.declared.body.Body.TheVariants.{Submit, Return, Abort, Answer}
-use Rattle.controller.specs.declared.command.Command.{Command}
-use Rattle.controller.specs.declared.command.Command.TheVariants as command
 use Rattle.controller.specs.declared.message.Message.{Message}
 use Rattle.controller.specs.declared.queue_status.QueueStatus.{QueueStatus}
 use Rattle.world_items.specs.declared.reply.Reply.{Reply}
@@ -26,20 +25,6 @@ use Rattle.worker_core.specs.Worker.{State, closed_entry, declined_entry, entry_
 use Rattle.worker_core.specs.Worker.{is_open, new_entry, response_in, with_entry}
 
 -- ---- refusals
-
--- whether the answer to a command is for a worker: one to a part that came back is
-abbrev pub is_of_workers : Command → Bool
-is_of_workers command.Submit = false
-is_of_workers command.Return = true
-is_of_workers command.Abort = false
-
--- whether a message is one for a worker: a part that goes out, that a spawn is to be given up, or
--- the answer to a part that came back
-abbrev pub is_for_workers : Body → Bool
-is_for_workers (Submit p) = true
-is_for_workers (Return p) = false
-is_for_workers (Abort s) = true
-is_for_workers (Answer c s response) = is_of_workers c
 
 -- why a part that goes out is refused, if it is: one of which there is no entry yet has to be sound
 abbrev pub part_refusal : List Entry → PartCopy → Option Refusal
@@ -66,7 +51,7 @@ body_refusal (Answer c s response) entries = answer_refusal entries s
 abbrev pub take_refusal : Message → State → Option Refusal
 take_refusal m w =
     first_of
-    (unless (bytes_eq m.receiver w.name && is_for_workers m.body) WrongMessage
+    (unless (bytes_eq m.receiver w.name && is_for_worker m.body) WrongMessage
     ∷ unless (bytes_eq m.sender w.master) WrongSender
     ∷ body_refusal m.body w.entries ∷ [])
 

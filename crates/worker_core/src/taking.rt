@@ -13,27 +13,11 @@ use crate::entries::Entries;
 use crate::entry::Entry;
 use crate::ordering::end_entry;
 use crate::stage::Stage;
-use controller::answering::outcome_of;
-use controller::{Body, Command, Message, Outcome, QueueStatus, Reply, Taken};
+use controller::answering::{is_for_worker, outcome_of};
+use controller::{Body, Message, Outcome, QueueStatus, Reply, Taken};
 use std::alloc::{AllocError, Global};
 use ticket_tree::{Id, Part, Refusal, SpawnId};
 use world_items::End;
-
-/// Whether a message is one for a worker.
-fn is_for_workers(body: &Body) -> bool
-    ensures { result ≡ messages.is_for_workers body.now }
-{
-    match body {
-        Body::Submit(_) => true,
-        Body::Return(_) => false,
-        Body::Abort(_) => true,
-        Body::Answer { of, .. } => match of {
-            Command::Submit => false,
-            Command::Return => true,
-            Command::Abort => false,
-        },
-    }
-}
 
 /// Why a part that goes out is refused.
 fn part_refusal(entries: &Entries, part: &Part) -> Option<Refusal>
@@ -87,7 +71,7 @@ fn refusal_of(name: &Id, master: &Id, entries: &Entries, message: &Message) -> O
     ensures { result
         ≡ messages.take_refusal message.now (worker.state name.now master.now entries.now) }
 {
-    if message.receiver != *name || !is_for_workers(&message.body) {
+    if message.receiver != *name || !is_for_worker(&message.body) {
         return Some(Refusal::WrongMessage);
     }
     if message.sender != *master {

@@ -48,10 +48,10 @@ AreRecorded c v = All (IsRecorded c v.name) v.entries
 
 -- who sends a message, and to whom: between the master and the worker of the spawn's record
 abbrev pub sender_of : Controllers → SpawnRec → Body → List ℕ
-sender_of c r body = if worker_messages.is_for_workers body then c.master.name else r.worker
+sender_of c r body = if worker_messages.is_for_worker body then c.master.name else r.worker
 
 abbrev pub receiver_of : Controllers → SpawnRec → Body → List ℕ
-receiver_of c r body = if worker_messages.is_for_workers body then r.worker else c.master.name
+receiver_of c r body = if worker_messages.is_for_worker body then r.worker else c.master.name
 
 -- ---- what a message says
 

@@ -1,5 +1,4 @@
-ghost use Rattle.std.specs.Prelude.{◌≡◌, ◌≤◌, ◌⊎◌, Bool, Result, Err, Ok, false, true};
-ghost use Rattle.std.specs.Prelude.{IfErr, IfOk, OnOk};
+ghost use Rattle.std.specs.Prelude.{◌≡◌, ◌≤◌, Bool, Result, Ok, false, true, IfOk, OnOk};
 ghost use Rattle.serde_json.specs.Data.{Data, depth};
 ghost use Rattle.serde_json.specs.Read.{max_depth};
 ghost use Rattle.serde_json.specs.View.{view};
@@ -54,20 +53,6 @@ pub trait StateForm: Drop {
         // Proved: A state of either format is read as its form says, its format first, or refused
         // for its first fault.
         ensures { Answers result (state_read (S.content value.now)) };
-
-    /// The same controller twice.
-    final fn pair_of<S: Source>(alloc: Global, value: &S) -> Result<(Self, Self), Refusal>
-        // Proved: A state is read so as two equal controllers, or refused for its first fault.
-        // By `first`, `second`, `refused`.
-        ensures first { IfOk result (λ pair. state_read (S.content value.now) ≡ Ok pair.0) }
-        ensures second { IfOk result (λ pair. state_read (S.content value.now) ≡ Ok pair.1) }
-        ensures refused { IfErr result (λ e. (e ≡ Refusal.Memory)
-            ⊎ (state_read (S.content value.now) ≡ Err e)) }
-    {
-        let first = Self::state_of(alloc, value)?;
-        let second = Self::state_of(alloc, value)?;
-        Ok((first, second))
-    }
 
     /// The text of its state, which is read as this controller.
     final fn state_text(&self, alloc: Global) -> Result<Vec<u8>, AllocError>

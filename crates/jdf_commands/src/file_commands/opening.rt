@@ -15,7 +15,7 @@ use streams::Fault;
 
 /// The controller whose state a keeper holds, beside the keeper. What is refused is a fault of the
 /// device.
-pub(crate) fn open_keep<K: Keep>(alloc: Global, keep: K) -> Result<AnyKept<K>, Fault>
+pub fn open_keep<K: Keep>(alloc: Global, keep: K) -> Result<AnyKept<K>, Fault>
     ensures ok { IfOk result (λ opened. IsLoaded K.is_honest K.held K.place keep (kept_of opened)) }
     ensures refused { IfErr result (IsNotLoaded K.is_honest K.held K.load_fails keep) }
 {

@@ -77,24 +77,15 @@ held_part c r e all found entered out taken =
 
 -- ---- the master
 
--- what isn't for workers is for masters
-for_master : (body : Body) → worker_messages.is_for_workers body ≡ false → master_messages.is_for_masters body ≡ true
-for_master (Submit p) e = absurd (true≢false e)
-for_master (Return p) e = refl
-for_master (Abort s) e = absurd (true≢false e)
-for_master (Answer command.Submit s told) e = refl
-for_master (Answer command.Return s told) e = absurd (true≢false e)
-for_master (Answer command.Abort s told) e = refl
-
 -- the master refuses what is in order and for it only for what it says
-pub master_asks : (c : Controllers) (m : Message) → worker_messages.is_for_workers m.body ≡ false → (h : IsInOrder c m) → master_messages.body_refusal m.body c.master h.spawn ≡ None → master_messages.take_refusal m c.master ≡ None
+pub master_asks : (c : Controllers) (m : Message) → worker_messages.is_for_worker m.body ≡ false → (h : IsInOrder c m) → master_messages.body_refusal m.body c.master h.spawn ≡ None → master_messages.take_refusal m c.master ≡ None
 master_asks c m mine h free =
     let w = c.master in
     let to : m.receiver ≡ w.name = h.to ∙ ap (λ b. cond b h.spawn.worker w.name) mine in
     let from : m.sender ≡ h.spawn.worker = h.from ∙ ap (λ b. cond b w.name h.spawn.worker) mine in
     let rest = option_map_or (master_messages.record_refusal m w) (master.record_of w.records (spawn_in m.body)) (Some UnknownSpawn) in
-    ap (λ b. first_of (unless (b && master_messages.is_for_masters m.body) WrongMessage ∷ rest ∷ [])) (same_bytes m.receiver w.name to)
-    ∙ ap (λ b. first_of (unless b WrongMessage ∷ rest ∷ [])) (for_master m.body mine)
+    ap (λ b. first_of (unless (b && not (worker_messages.is_for_worker m.body)) WrongMessage ∷ rest ∷ [])) (same_bytes m.receiver w.name to)
+    ∙ ap (λ b. first_of (unless (not b) WrongMessage ∷ rest ∷ [])) mine
     ∙ ap (λ o. first_of (None ∷ option_map_or (master_messages.record_refusal m w) o (Some UnknownSpawn) ∷ [])) h.recorded
     ∙ ap (λ b. first_of (None ∷ first_of (unless b WrongSender ∷ master_messages.body_refusal m.body w h.spawn ∷ []) ∷ [])) (same_bytes m.sender h.spawn.worker from)
     ∙ ap (λ o. first_of (None ∷ first_of (None ∷ o ∷ []) ∷ [])) free
@@ -132,7 +123,7 @@ return_fits c p sender receiver sent all h out =
     subst (Fits c.master.ticket r) (sym (returned_part r.worker c.master.name sender receiver sent ended.0 p held.0 held.1 ended.2.1)) held.2
 
 -- so the master refuses nothing that was sent to it
-master_takes : (c : Controllers) (sender receiver : List ℕ) (sent : ℕ) (body : Body) → All (AreRecorded c) c.workers → All (HasComeBack c) c.master.records → worker_messages.is_for_workers body ≡ false → (h : IsInOrder c (record { sender = sender; receiver = receiver; at = sent; body = body })) → master_messages.body_refusal body c.master h.spawn ≡ None
+master_takes : (c : Controllers) (sender receiver : List ℕ) (sent : ℕ) (body : Body) → All (AreRecorded c) c.workers → All (HasComeBack c) c.master.records → worker_messages.is_for_worker body ≡ false → (h : IsInOrder c (record { sender = sender; receiver = receiver; at = sent; body = body })) → master_messages.body_refusal body c.master h.spawn ≡ None
 master_takes c sender receiver sent (Submit p) all back mine h = refl
 master_takes c sender receiver sent (Return p) all back mine h =
     let r = h.spawn in
@@ -141,7 +132,7 @@ master_takes c sender receiver sent (Return p) all back mine h =
 master_takes c sender receiver sent (Abort s) all back mine h = refl
 master_takes c sender receiver sent (Answer d s told) all back mine h = refl
 
-pub master_refuses_nothing : (c : Controllers) (m : Message) → All (AreRecorded c) c.workers → All (HasComeBack c) c.master.records → worker_messages.is_for_workers m.body ≡ false → IsInOrder c m → master_messages.take_refusal m c.master ≡ None
+pub master_refuses_nothing : (c : Controllers) (m : Message) → All (AreRecorded c) c.workers → All (HasComeBack c) c.master.records → worker_messages.is_for_worker m.body ≡ false → IsInOrder c m → master_messages.take_refusal m c.master ≡ None
 master_refuses_nothing c m all back mine h = master_asks c m mine h (master_takes c m.sender m.receiver m.at m.body all back mine h)
 
 -- ---- a worker
@@ -170,7 +161,7 @@ ended_none e ended =
     ap (λ b. first_of (unless (not b) UnknownEntry ∷ unless (not (worker.is_open e)) NotDone ∷ [])) shut.1
     ∙ ap (λ b. first_of (None ∷ unless (not b) NotDone ∷ [])) shut.0
 
-worker_takes : (c : Controllers) (v : worker.State) (sender receiver : List ℕ) (sent : ℕ) (body : Body) → worker_of c.workers receiver ≡ Some v → worker_messages.is_for_workers body ≡ true → IsInOrder c (record { sender = sender; receiver = receiver; at = sent; body = body }) → worker_messages.body_refusal body v.entries ≡ None
+worker_takes : (c : Controllers) (v : worker.State) (sender receiver : List ℕ) (sent : ℕ) (body : Body) → worker_of c.workers receiver ≡ Some v → worker_messages.is_for_worker body ≡ true → IsInOrder c (record { sender = sender; receiver = receiver; at = sent; body = body }) → worker_messages.body_refusal body v.entries ≡ None
 worker_takes c v sender receiver sent (Submit p) found theirs h = sound_or (is_some (worker.entry_of v.entries p.spawn_id)) (is_sound p) h.sound
 worker_takes c v sender receiver sent (Return p) found theirs h = refl
 worker_takes c v sender receiver sent (Abort s) found theirs h = refl
@@ -181,10 +172,10 @@ worker_takes c v sender receiver sent (Answer command.Return s told) found their
     ap (λ o. option_map_or worker_messages.ended_refusal o (Some UnknownEntry)) there.1 ∙ ended_none there.0 there.2
 
 -- a worker refuses nothing that was sent to it
-pub worker_refuses_nothing : (c : Controllers) (v : worker.State) (m : Message) → worker_of c.workers m.receiver ≡ Some v → v.name ≡ m.receiver → v.master ≡ c.master.name → worker_messages.is_for_workers m.body ≡ true → IsInOrder c m → worker_messages.take_refusal m v ≡ None
+pub worker_refuses_nothing : (c : Controllers) (v : worker.State) (m : Message) → worker_of c.workers m.receiver ≡ Some v → v.name ≡ m.receiver → v.master ≡ c.master.name → worker_messages.is_for_worker m.body ≡ true → IsInOrder c m → worker_messages.take_refusal m v ≡ None
 worker_refuses_nothing c v m found named knows theirs h =
     let from : m.sender ≡ v.master = h.from ∙ ap (λ b. cond b c.master.name h.spawn.worker) theirs ∙ sym knows in
-    ap (λ b. first_of (unless (b && worker_messages.is_for_workers m.body) WrongMessage ∷ unless (bytes_eq m.sender v.master) WrongSender ∷ worker_messages.body_refusal m.body v.entries ∷ [])) (same_bytes m.receiver v.name (sym named))
+    ap (λ b. first_of (unless (b && worker_messages.is_for_worker m.body) WrongMessage ∷ unless (bytes_eq m.sender v.master) WrongSender ∷ worker_messages.body_refusal m.body v.entries ∷ [])) (same_bytes m.receiver v.name (sym named))
     ∙ ap (λ b. first_of (unless b WrongMessage ∷ unless (bytes_eq m.sender v.master) WrongSender ∷ worker_messages.body_refusal m.body v.entries ∷ [])) theirs
     ∙ ap (λ b. first_of (None ∷ unless b WrongSender ∷ worker_messages.body_refusal m.body v.entries ∷ [])) (same_bytes m.sender v.master from)
     ∙ ap (λ o. first_of (None ∷ None ∷ o ∷ [])) (worker_takes c v m.sender m.receiver m.at m.body found theirs h)

@@ -12,7 +12,7 @@ use Rattle.spawn.proofs.SoundPart.{false_by}
 use Rattle.spawn.specs.declared.records.spawn_rec.SpawnRec.{SpawnRec}
 use Rattle.master_core.specs.Master as master
 use Rattle.worker_core.proofs.AtNumber.{found_holds}
-use Rattle.worker_core.specs.Messages.{is_for_workers}
+use Rattle.worker_core.specs.Messages.{is_for_worker}
 use Rattle.worker_core.specs.Worker as worker
 use Rattle.world.proofs.Worker.SameWorkers.{worker_known}
 use Rattle.world.specs.Controllers.{is_named, worker_of}
@@ -21,7 +21,7 @@ use Rattle.world.specs.State.{IsConsistent, State}
 
 -- ---- the master
 
-pub master_receives : (w : State) (m : Message) → IsInOrder w.controllers m → is_for_workers m.body ≡ false → bytes_eq m.receiver w.controllers.master.name ≡ true
+pub master_receives : (w : State) (m : Message) → IsInOrder w.controllers m → is_for_worker m.body ≡ false → bytes_eq m.receiver w.controllers.master.name ≡ true
 master_receives w m h mine =
     let name = w.controllers.master.name in
     let to : m.receiver ≡ name = h.to ∙ ap (λ b. cond b h.spawn.worker name) mine in
@@ -52,7 +52,7 @@ pub record IsReceived (w : State) (m : Message) : Type 0 where
   pub knows : by.master ≡ w.controllers.master.name
   pub other : bytes_eq m.receiver w.controllers.master.name ≡ false
 
-pub worker_receives : (w : State) (m : Message) → IsConsistent w → IsInOrder w.controllers m → is_for_workers m.body ≡ true → IsReceived w m
+pub worker_receives : (w : State) (m : Message) → IsConsistent w → IsInOrder w.controllers m → is_for_worker m.body ≡ true → IsReceived w m
 worker_receives w m ok h theirs =
     let c = w.controllers in
     let to : m.receiver ≡ h.spawn.worker = h.to ∙ ap (λ b. cond b h.spawn.worker c.master.name) theirs in

@@ -48,7 +48,7 @@ worker_said m at w v found none = (
 by_receiver : (mine : Bool) (m : Message) (at : ℕ) (w : State) → bytes_eq m.receiver w.controllers.master.name ≡ mine → Said w (cond mine (master_step (causes.Message m) at w) (worker_step m.receiver NoMessage (causes.Message m) at w)) → Said w (receiver_takes at w m)
 by_receiver mine m at w is said = subst (λ b. Said w (cond b (master_step (causes.Message m) at w) (worker_step m.receiver NoMessage (causes.Message m) at w))) (sym is) said
 
-taken_by : (theirs : Bool) (m : Message) (at : ℕ) (w : State) → worker_messages.is_for_workers m.body ≡ theirs → IsConsistent w → IsInOrder w.controllers m → Said w (receiver_takes at w m)
+taken_by : (theirs : Bool) (m : Message) (at : ℕ) (w : State) → worker_messages.is_for_worker m.body ≡ theirs → IsConsistent w → IsInOrder w.controllers m → Said w (receiver_takes at w m)
 taken_by false m at w mine ok h = by_receiver true m at w (master_receives w m h mine) (master_said m at w (master_refuses_nothing w.controllers m ok.recorded ok.back mine h))
 taken_by true m at w theirs ok h =
     let is = worker_receives w m ok h theirs in
@@ -57,5 +57,5 @@ taken_by true m at w theirs ok h =
 pub sent_is_taken : SentIsTaken
 sent_is_taken w k at m ok found =
     let good : IsInOrder w.controllers m = All-contains (IsInOrder w.controllers) w.messages m ok.messages.each (message_there w.messages k m found) in
-    let said = taken_by (worker_messages.is_for_workers m.body) m at w refl ok good in
+    let said = taken_by (worker_messages.is_for_worker m.body) m at w refl ok good in
     (said.0, ap (λ o. (next_answer Run w (option_map_or (receiver_takes at w) o (Err NoMessage))).word) found ∙ said.1)

@@ -15,7 +15,7 @@ use Rattle.master_core.proofs.Recorded.{number_is}
 use Rattle.master_core.specs.Master.{record_of}
 use Rattle.master_core.specs.Orders.{submit_of}
 use Rattle.worker_core.proofs.Closing.{closed_ended, closed_open, closed_told, ended_shut}
-use Rattle.worker_core.specs.Messages.{is_for_workers}
+use Rattle.worker_core.specs.Messages.{is_for_worker}
 use Rattle.worker_core.specs.Worker.{closed_entry, closed_entry_in, is_ended, is_open}
 use Rattle.worker_core.specs.declared.entry.Entry.{Entry}
 use Rattle.worker_core.specs.declared.stage.Stage.{Stage}
@@ -118,8 +118,8 @@ in_order_later c d later m h =
     record {
       spawn = on.next;
       recorded = on.found;
-      from = h.from ∙ ap (λ n. cond (is_for_workers m.body) n h.spawn.worker) (sym later.name) ∙ ap (cond (is_for_workers m.body) d.master.name) (sym on.worker);
-      to = h.to ∙ ap (λ n. cond (is_for_workers m.body) h.spawn.worker n) (sym later.name) ∙ ap (λ n. cond (is_for_workers m.body) n d.master.name) (sym on.worker);
+      from = h.from ∙ ap (λ n. cond (is_for_worker m.body) n h.spawn.worker) (sym later.name) ∙ ap (cond (is_for_worker m.body) d.master.name) (sym on.worker);
+      to = h.to ∙ ap (λ n. cond (is_for_worker m.body) h.spawn.worker n) (sym later.name) ∙ ap (λ n. cond (is_for_worker m.body) n d.master.name) (sym on.worker);
       says = says_later c d m s h.spawn m.body later on id h.says;
       for_master = h.for_master;
       for_worker = h.for_worker;

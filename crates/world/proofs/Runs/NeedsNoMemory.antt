@@ -8,7 +8,7 @@ use Rattle.std.specs.Str.{bytes_eq}
 use Rattle.ticket_items.proofs.Apart.{bytes_eq-same}
 use Rattle.ticket_items.proofs.Places.{found_at_position}
 use Rattle.controller.specs.declared.message.Message.{Message}
-use Rattle.worker_core.specs.Messages.{is_for_workers}
+use Rattle.worker_core.specs.Messages.{is_for_worker}
 use Rattle.worker_core.specs.Worker as worker
 use Rattle.world.proofs.Shop.AlwaysKept.{message_there}
 use Rattle.world.proofs.Runs.Cases.{split, when_false, when_true}
@@ -48,7 +48,7 @@ is_received w k at m ok found =
     let h = All-contains (IsInOrder c) w.messages m ok.messages.each (message_there w.messages k m found) in
     let mine = bytes_eq m.receiver c.master.name in
     ap (λ o. is_ok (option_map_or (receiver_takes at w) o (Err NoMessage))) found
-    ∙ split (is_for_workers m.body)
+    ∙ split (is_for_worker m.body)
     (λ theirs.
     let by = worker_receives w m ok h theirs in
     ap is_ok (when_false mine (master_step (causes.Message m) at w) (worker_step m.receiver NoMessage (causes.Message m) at w) by.other)

@@ -84,11 +84,11 @@ taken_back : (w : State) (m : Message) (at : ℕ) (body : Body) → m.body ≡ b
 taken_back w m at (Submit p) says ok own h later = tt
 taken_back w m at (Answer d s told) says ok own h later = tt
 taken_back w m at (Abort s) says ok own h later =
-    let by = worker_receives w m ok h (ap worker_messages.is_for_workers says) in
+    let by = worker_receives w m ok h (ap worker_messages.is_for_worker says) in
     absurd (true≢false (sym (ap (bytes_eq m.receiver) (sym own) ∙ bytes_eq-same m.receiver) ∙ by.other))
 taken_back w m at (Return p) says ok own h later =
     let c = w.controllers in
-    let none = master_refuses_nothing c m ok.recorded ok.back (ap worker_messages.is_for_workers says) h in (
+    let none = master_refuses_nothing c m ok.recorded ok.back (ap worker_messages.is_for_worker says) h in (
       returned_told c m at p says none,
       returned_in m at c.master p h.spawn later.spawn says none (ap (λ b. master.record_of c.master.records (spawn_in b)) (sym says) ∙ h.recorded) (ap (λ b. master.record_of (master_messages.take_step m at c.master).next.records (spawn_in b)) (sym says) ∙ later.recorded),
     )
@@ -173,18 +173,18 @@ taken_so : (w : State) (v : worker.State) (m : Message) (at : ℕ) (body : Body)
 taken_so w v m at (Submit p) says own ok found is h later = tt
 taken_so w v m at (Answer d s said) says own ok found is h later = tt
 taken_so w v m at (Return p) says own ok found is h later =
-    let mine : m.receiver ≡ w.controllers.master.name = h.to ∙ ap (λ b. cond (worker_messages.is_for_workers b) h.spawn.worker w.controllers.master.name) says in
+    let mine : m.receiver ≡ w.controllers.master.name = h.to ∙ ap (λ b. cond (worker_messages.is_for_worker b) h.spawn.worker w.controllers.master.name) says in
     let one : v.name ≡ v.master = sym own ∙ mine ∙ sym is.knows in
     absurd (true≢false (sym (ap (bytes_eq v.name) (sym one) ∙ bytes_eq-same v.name) ∙ is.kept.apart))
 taken_so w v m at (Abort s) says own ok found is h later =
     let c = w.controllers in
     let next = (worker_messages.take_step m at v).next in
     let d = worker_steps.with_next c v.name next in
-    let theirs : worker_messages.is_for_workers m.body ≡ true = ap worker_messages.is_for_workers says in
+    let theirs : worker_messages.is_for_worker m.body ≡ true = ap worker_messages.is_for_worker says in
     let none = worker_refuses_nothing c v m (ap (worker_of c.workers) own ∙ found) (sym own) is.knows theirs h in
     let r = later.spawn in
     let number : r.id ≡ s = number_is d.master.records (spawn_in m.body) r later.recorded ∙ ap spawn_in says in
-    let named : r.worker ≡ v.name = sym (later.to ∙ ap (λ b. cond (worker_messages.is_for_workers b) r.worker d.master.name) says) ∙ own in
+    let named : r.worker ≡ v.name = sym (later.to ∙ ap (λ b. cond (worker_messages.is_for_worker b) r.worker d.master.name) says) ∙ own in
     let comes : worker_messages.on_body m.body at v ≡ worker_messages.on_abort s at v = ap (λ b. worker_messages.on_body b at v) says in
     let entries = (worker_messages.on_abort s at v).next.entries in
     let after : next ≡ (worker_messages.on_abort s at v).next =

@@ -27,7 +27,7 @@ use Rattle.worker_core.proofs.MessageLaws.{message_keeps_entries}
 use Rattle.worker_core.proofs.OrderLaws.{order_keeps_entries, ordered_return}
 use Rattle.worker_core.proofs.Refusals.{done_order, edit_free, for_free, ordered_on}
 use Rattle.worker_core.specs.Laws.{entry_after}
-use Rattle.worker_core.specs.Messages.{abort_taking, aborted_entry, decline_taking, entry_taking, is_for_workers, on_answer, on_body, repeat_taking, take_refusal, take_step}
+use Rattle.worker_core.specs.Messages.{abort_taking, aborted_entry, decline_taking, entry_taking, is_for_worker, on_answer, on_body, repeat_taking, take_refusal, take_step}
 use Rattle.worker_core.specs.Orders.{allowed_step, edited_entry, end_edit, ended_part, finished_entry, order_refusal, part_return, spawn_of_order}
 use Rattle.worker_core.specs.Worker.{IsConsistent, IsKeptEntry, IsKeptPart, State, closed_entry, declined_entry, entry_of, is_declined, is_ended, is_of, is_open, new_entry}
 use Rattle.world_items.specs.declared.end.End.TheVariants.{Aborted}
@@ -157,7 +157,7 @@ recorded_aborted (Some x) c s at r v found named all = All-each_at_number (IsRec
 recorded_aborted None c s at r v found named all =
     All-push (IsRecorded c v.name) v.entries (declined_entry s at) all (found_and _ (record_of c.master.records s) r found (named, λ out on_body. absurd (true≢false on_body)))
 
-recorded_taken : (c : Controllers) (v : State) (sender receiver : List ℕ) (sent at : ℕ) (body : Body) → receiver ≡ v.name → is_for_workers body ≡ true → IsInOrder c (record { sender = sender; receiver = receiver; at = sent; body = body }) → All (IsRecorded c v.name) v.entries → All (IsRecorded c v.name) (on_body body at v).next.entries
+recorded_taken : (c : Controllers) (v : State) (sender receiver : List ℕ) (sent at : ℕ) (body : Body) → receiver ≡ v.name → is_for_worker body ≡ true → IsInOrder c (record { sender = sender; receiver = receiver; at = sent; body = body }) → All (IsRecorded c v.name) v.entries → All (IsRecorded c v.name) (on_body body at v).next.entries
 recorded_taken c v sender receiver sent at (Submit p) own theirs h all =
     let made = λ (out : is_out h.spawn ≡ true). same_part p (part_for c.master.ticket h.spawn) (ap (λ (m : Message). m.body) (h.says out)) in
     recorded_push (entry_of v.entries p.spawn_id) c v p at all
@@ -172,7 +172,7 @@ recorded_either : (refusal : Option Refusal) (c : Controllers) (m : Message) (at
     → All (IsRecorded c v.name) (message_step v.name m at refusal v (on_body m.body at v)).next.entries
 recorded_either (Some e) c m at v is own h all = all
 recorded_either None c m at v is own h all =
-    recorded_taken c v m.sender m.receiver m.at at m.body own (and_parts (bytes_eq m.receiver v.name) (is_for_workers m.body) (for_free m v is)).1 h all
+    recorded_taken c v m.sender m.receiver m.at at m.body own (and_parts (bytes_eq m.receiver v.name) (is_for_worker m.body) (for_free m v is)).1 h all
 
 -- a part that is taken is of a spawn that has a record
 pub taken_recorded : (c : Controllers) (m : Message) (at : ℕ) (v : State) → m.receiver ≡ v.name → IsInOrder c m → All (IsRecorded c v.name) v.entries → All (IsRecorded c v.name) (take_step m at v).next.entries
