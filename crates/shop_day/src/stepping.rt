@@ -11,12 +11,12 @@ ghost use Rattle.world_items.specs.declared.stop.Stop.TheVariants.{Run};
 use crate::outcome::Outcome;
 use crate::sending::text_sent;
 use controller::Reply;
-use jdf_commands::step_output;
+use jdf_commands::{fault_of, step_output};
 use keepers::Keep;
 use master_core::Master;
 use std::alloc::{AllocError, Global};
-use stored_state::{KeptSeat, Refused};
-use streams::{Fault, Output};
+use stored_state::KeptSeat;
+use streams::Output;
 use ticket_tree::Refusal;
 use worker_core::Worker;
 use world::{Direct, Seats};
@@ -31,16 +31,6 @@ fn reply_in(word: Word) -> Option<Result<Reply, Refusal>>
         Word::Did(reply) => Some(Ok(reply)),
         Word::Refused(refusal) => Some(Err(refusal)),
         Word::Stopped | Word::Restarted | Word::NoMessage => None,
-    }
-}
-
-/// The fault that a refusal of a step is.
-pub fn fault_of(refused: Refused) -> Fault
-    ensures { result ≡ steps.fault_of refused }
-{
-    match refused {
-        Refused::Core(refusal) => Fault::Input(Refused::Core(refusal)),
-        other => Fault::Device(other),
     }
 }
 
