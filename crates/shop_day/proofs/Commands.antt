@@ -30,7 +30,7 @@ use Rattle.world_items.specs.declared.what.What.{What}
 use Rattle.world_items.specs.declared.what.What.TheVariants.{Deliver}
 use Rattle.jdf_commands.specs.FileCommands.Commands.{GivesHeld, Shows, shown_text}
 use Rattle.jdf_commands.specs.FileCommands.Step.{is_refused, step_lines}
-use Rattle.shop_day.proofs.Made.{IsMade, message_made, order_made, read_once}
+use Rattle.shop_day.proofs.Made.{IsMade, message_handed, order_made, read_once}
 use Rattle.shop_day.proofs.Numbers.{numbered_some, sent_there}
 use Rattle.shop_day.proofs.Stops.{message_done, order_done}
 use Rattle.shop_day.specs.Done.{DoesLine, IsWritten, StepsTo, text_at}
@@ -87,10 +87,7 @@ pub take_is_line : {K : Type 0} (is_honest : K → Bool) (held place : K → Lis
 take_is_line is_honest held place w k at m keep then reply sent out ok found reads file given text status =
     let same : given.before.controller ≡ file.controller = read_once any_state_read (held keep) given.before.controller file.controller (given.loaded.shown file.honest) file.read in
     let step = given.gives.step in
-    let handed : IsHanded at (message_text m) file.controller step = subst (λ c. IsHanded at (message_text m) c step) same given.gives.is_step.0 in
-    let one : handed.message ≡ m = read_once message_read (message_text m) handed.message m handed.decoded reads in
-    let is : step ≡ take_step_of at m file.controller = handed.holds ∙ ap (λ x. take_step_of at x file.controller) one in
-    let made : IsMade w m.receiver (Deliver k) at step = subst (IsMade w m.receiver (Deliver k) at) (sym is) (message_made w k at m file.controller found file.there) in
+    let made = message_handed w k at m file.controller step found file.there reads (subst (λ c. IsHanded at (message_text m) c step) same given.gives.is_step.0) in
     let new = after (event (Deliver k) at Run) w in (
       new,
       message_done k at w new (Wrote out) (numbered_some w.messages k m found) (steps_to w m.receiver (Deliver k) at step reply sent out made given.gives.is_step.1 given.gives.is_step.2 text status),

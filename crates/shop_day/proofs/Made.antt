@@ -17,7 +17,8 @@ use Rattle.json_profile.specs.ReadAs.{IsReadAs}
 use Rattle.master_core.specs.Master as master
 use Rattle.master_core.specs.Messages.{take_step as taken_by_master}
 use Rattle.master_core.specs.Orders.{order_step as ordered_master}
-use Rattle.stored_state.specs.AnyStep.{IsOrdered, take_step_of}
+use Rattle.jmf_message.specs.Decoded.{IsDecodedAs, message_read}
+use Rattle.stored_state.specs.AnyStep.{IsHanded, IsOrdered, take_step_of}
 use Rattle.stored_state.specs.Message.{message_text}
 use Rattle.stored_state.specs.Names.{master_order_names, master_take_names, worker_order_names, worker_take_names}
 use Rattle.stored_state.specs.Opened.{AnyController, of_master, of_worker}
@@ -167,3 +168,10 @@ message_by w k at m c found (inr (v, other, there, same)) =
 pub message_made : (w : State) (k at : ℕ) (m : Message) (c : AnyController) → message_at w.messages k ≡ Some m → controller_of w.controllers m.receiver ≡ Some c → IsMade w m.receiver (Deliver k) at (take_step_of at m c)
 message_made w k at m c found there =
     message_by w k at m c found (who_of (bytes_eq m.receiver w.controllers.master.name) w.controllers.master (worker_of w.controllers.workers m.receiver) c there)
+
+-- the step of the message that its text is
+pub message_handed : (w : State) (k at : ℕ) (m : Message) (c : AnyController) (step : TextStep AnyController) → message_at w.messages k ≡ Some m → controller_of w.controllers m.receiver ≡ Some c → IsDecodedAs (message_text m) (Ok m) → IsHanded at (message_text m) c step → IsMade w m.receiver (Deliver k) at step
+message_handed w k at m c step found there reads is =
+    let one : is.message ≡ m = read_once message_read (message_text m) is.message m is.decoded reads in
+    let same : step ≡ take_step_of at m c = is.holds ∙ ap (λ x. take_step_of at x c) one in
+    subst (IsMade w m.receiver (Deliver k) at) (sym same) (message_made w k at m c found there)

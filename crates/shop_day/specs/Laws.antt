@@ -3,7 +3,7 @@ use Rattle.std.specs.Prelude.{◌≡◌, ◌⊎◌, ℕ, Bool, false, true, List
 use Rattle.std.specs.Global.{Vec}
 use Rattle.ticket_items.specs.declared.refusal.Refusal.{Refusal}
 use Rattle.controller.specs.declared.message.Message.{Message}
-use Rattle.jmf_message.specs.Decoded.{IsDecodedAs}
+use Rattle.jmf_message.specs.Decoded.{IsDecodedAs, IsRefusalOf}
 use Rattle.stored_state.specs.AnyStep.{IsHanded, IsNoOrder, IsOrdered, text_of}
 use Rattle.stored_state.specs.Held.{KeptState}
 use Rattle.stored_state.specs.Message.{message_text}
@@ -79,6 +79,19 @@ FailedOrderIsLine {K = K} is_honest held place count save_fails =
     (IsOrdered at bytes.items before.controller) before after fault
     → (new : State) × DoesLine (record { call = Order name bytes; at = at }) w new (GaveUp fault)
     × HoldsEither held w new name keep after.keep
+
+-- and so it is where the text of a message that was sent gives nothing out
+abbrev pub FailedTakeIsLine : {K : Type 0} → (K → Bool) → (K → List ℕ) → (K → List ℕ) → (K → ℕ)
+    → (K → List ℕ → K → Type 0) → Type 0
+FailedTakeIsLine {K = K} is_honest held place count save_fails =
+    (w : State) (k at : ℕ) (m : Message) (keep : K) (before after : KeptState AnyController K)
+    (fault : Fault) → IsConsistent w → message_at w.messages k ≡ Some m
+    → IsDecodedAs (message_text m) (Ok m) → IsFileOf is_honest held w m.receiver keep
+    → IsLoaded is_honest held place keep before → is_honest after.keep ≡ true
+    → GivesNoOutput is_honest held count save_fails text_of (IsRefusalOf (message_text m))
+    (IsHanded at (message_text m) before.controller) before after fault
+    → (new : State) × DoesLine (record { call = Take k; at = at }) w new (GaveUp fault)
+    × HoldsEither held w new m.receiver keep after.keep
 
 -- where none is loaded, it does too, and nothing is changed
 abbrev pub NotLoadedIsLine : {K : Type 0} → (K → Bool) → (K → List ℕ) → (K → K → Type 0) → Type 0

@@ -27,11 +27,16 @@ pub fn show_is_line<K: Keep>()
 /// Where an order gives nothing out of the file of a controller, a line of a day gives up for the
 /// same, and the file holds the controller as it was, or the text of it as it is then.
 pub fn failed_order_is_line<K: Keep>()
-    // Proved: Where an order to the file of a shop's controller gives up, on any honest keeper, a
-    // line of a day does for the same, and the file holds the controller as it was, or as it is in
+    // Proved: Where an order or a message to the file of a shop's controller gives up, on any
+    // honest keeper, a line of a day does for the same, and the file holds the controller as it was, or as it is in
     // the shop that the line leaves.
-    // By `not_loaded_is_line`.
+    // By `failed_take_is_line`, `not_loaded_is_line`.
     ensures { law.FailedOrderIsLine K.is_honest K.held K.place K.count K.save_fails }
+{}
+
+/// The same of a message that was sent.
+pub fn failed_take_is_line<K: Keep>()
+    ensures { law.FailedTakeIsLine K.is_honest K.held K.place K.count K.save_fails }
 {}
 
 /// The same where no controller is loaded: nothing is changed.
