@@ -4,9 +4,8 @@ ghost use Rattle.std.specs.Prelude.{◌≡◌, ◌⊎◌, IfErr};
 ghost use Rattle.jdf_net.specs.ServeCommand.{EndsServe, IsUnserved};
 ghost use Rattle.streams.specs.declared.refused.Refused.TheVariants.{NoConnection, WriteFailed};
 
-use etcd_place::{EtcdFolder, EtcdPlace, is_etcd};
 use jdf_commands::{CausedFault, give_up_caused};
-use jdf_server::{Post, Server, Service, check_path};
+use jdf_server::{Post, Server, Service, check_file};
 use keepers::Locks;
 use mio::net::TcpListener;
 use peers_file::NO_PEERS;
@@ -70,57 +69,12 @@ fn listen_fault(alloc: Global, address: &str, error: &io::Error) -> CausedFault
     }
 }
 
-/// What is served: what lies at a path, or the value of a place in etcd, or those of a folder
-/// there, with a `/` behind it; which aren't looked for among files.
-fn place_of<'a, R: Files>(rt: &R, path: &'a str) -> Place<'a> {
-    if !is_etcd(path) {
-        return Place::at(rt, path);
-    }
-    match path.strip_suffix("/") {
-        Some(folder) if is_etcd(folder) => Place::Folder(folder),
-        _ => Place::File(path),
-    }
-}
-
-/// What is known where nothing could be loaded of what is to be a place in etcd.
-fn etcd_words(path: &str) -> &'static str {
-    match EtcdPlace::of(path) {
-        Some(_) => "nothing is kept there, or its node doesn't answer",
-        None => "a place in etcd is etcd://HOST:PORT/NAME, and a folder etcd://HOST:PORT/",
-    }
-}
-
-/// Why no controller could be loaded of a path: what the system says of its file, or what is known
-/// of a place in etcd.
-fn unloaded<R: Files>(rt: &R, alloc: Global, refused: Refused, path: &str) -> CausedFault
-    ensures { result.fault ≡ Fault.Device refused }
-{
-    let fault = Fault::Device(refused);
-    if !is_etcd(path) {
-        return CausedFault::at_path(rt, alloc, fault, path, "");
-    }
-    let words = etcd_words(path);
-    match format!(in alloc; "{path}: {words}") {
-        Ok(name) => CausedFault::at(alloc, fault, name.as_str()),
-        Err(_) => CausedFault::without_cause(fault),
-    }
-}
-
-/// Whether a controller can be loaded of a file that is served, or of a key. Of a folder nothing is
-/// read, so that many files cost nothing. Refuses as `check_path`.
-fn check<R: Locks + Net + Clock>(
-    rt: &R,
-    alloc: Global,
-    place: &Place<'_>,
-) -> Result<(), Refused> {
+/// Whether a controller can be loaded of a file that is served. Of a folder nothing is read, so
+/// that many files cost nothing. Refuses as `check_file`.
+fn check<R: Locks>(rt: &R, alloc: Global, place: &Place<'_>) -> Result<(), Refused> {
     match place {
-        Place::File(path) => check_path(rt, alloc, path),
-        Place::Folder(path) => {
-            if is_etcd(path) && EtcdFolder::of(path).is_none() {
-                return Err(Refused::LoadFailed);
-            }
-            Ok(())
-        }
+        Place::File(file) => check_file(rt, alloc, file),
+        Place::Folder(_) => Ok(()),
     }
 }
 
@@ -138,9 +92,6 @@ fn peers_path<R: Files>(
     match place {
         Place::File(_) => Ok(None),
         Place::Folder(folder) => {
-            if is_etcd(folder) {
-                return Ok(None);
-            }
             let path = in_folder(alloc, folder, PEERS)?;
             match Lies::at(rt, path.as_str()) {
                 Lies::File => Ok(Some(path)),
@@ -276,9 +227,10 @@ fn serve<R: Locks + Net + Clock + Alloc + Clone + Drop, W: Write, F: Write>(
 ) -> Result<(), CausedFault>
     ensures { IfErr result (λ caused. IsUnserved caused.fault) }
 {
-    let place = place_of(rt, service.path);
+    let place = Place::at(rt, service.path);
     if let Err(refused) = check(rt, alloc, &place) {
-        return Err(unloaded(rt, alloc, refused, service.path));
+        let fault = Fault::Device(refused);
+        return Err(CausedFault::at_path(rt, alloc, fault, service.path, ""));
     }
     let listener = match listen(rt, service.listen) {
         Ok(listener) => listener,

@@ -1,4 +1,3 @@
-pub mod AtPath
 mod GivenBack
 mod JournalLines
 mod LinesJoined

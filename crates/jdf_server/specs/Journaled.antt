@@ -1,6 +1,6 @@
 -- The lines that `serve` appends to its journal, of the steps of one turn: one of each step that was
 -- saved and, as its reply tells, changed its controller.
-use Rattle.std.specs.Prelude.{◌≡◌, ◌≢◌, ◌⊎◌, ◌&&◌, ◌++◌, ℕ, Bool, true, false, not, List, [], ◌∷◌, map, codes}
+use Rattle.std.specs.Prelude.{◌≡◌, ◌≢◌, ◌⊎◌, ◌&&◌, ◌++◌, ℕ, Bool, false, not, List, [], ◌∷◌, map, codes}
 use Rattle.std.specs.Prelude.{Option, Some, None, Result, Ok, Err, if◌then◌else◌, option_map}
 use Rattle.ticket_items.specs.declared.refusal.Refusal.{Refusal}
 use Rattle.world_items.specs.declared.reply.Reply.{Reply}
@@ -22,8 +22,6 @@ use Rattle.stored_state.specs.declared.any_controller.AnyController.{AnyControll
 use Rattle.stored_state.specs.declared.coming.Coming.{Coming}
 use Rattle.stored_state.specs.declared.coming.Coming.TheVariants as comings
 use Rattle.stored_state.specs.declared.taken_bytes.TakenBytes.{TakenBytes}
-use Rattle.jdf_server.specs.InEtcd as etcd
-use Rattle.jdf_server.specs.InEtcd.{EtcdKeep, IsKeepAt}
 use Rattle.jdf_server.specs.declared.journaling.Call.{Call}
 use Rattle.jdf_server.specs.declared.stepping.OwnStepResult.{OwnStepResult}
 use Rattle.jdf_server.specs.declared.stepping.OwnStepResult.TheVariants as own_stepped
@@ -127,25 +125,6 @@ KeepsJournalIn told is_missed path to now errands old new (answered_so answered 
     now errands answered.items saved old new
 KeepsJournalIn told is_missed path to now errands old new (locked_out left last) =
     IsLeft told is_missed old new
-
--- the same of those who wait for the controller under the key of etcd that a path names
-abbrev pub JournalInEtcd : {J : Type 0} → (R : Type 0) → (J → List ℕ) → (J → Bool) → List ℕ
-    → Addressee → ℕ → List (Errand TcpStream) → List (AnsweredClient TcpStream)
-    → Option AnyController → J → J → Type 0
-JournalInEtcd R told is_missed path to now errands answered saved old new =
-    ((keep : EtcdKeep R) × IsKeepAt path keep
-    × KeepsJournal etcd.is_honest etcd.value_bytes etcd.place etcd.count etcd.load_fails
-    etcd.save_fails told is_missed keep to now errands answered saved old new)
-    ⊎ (AreUnavailable now (waiting_of errands) answered × IsLeft told is_missed old new)
-
--- and of those who wait for the controller at a path, in its file or under its key
-abbrev pub KeepsJournalAt : {J : Type 0} → (R : Type 0) → Bool → (J → List ℕ) → (J → Bool) → List ℕ
-    → Addressee → ℕ → List (Errand TcpStream) → J → J → StepsResult → Type 0
-KeepsJournalAt R true told is_missed path to now errands old new (answered_so answered saved) =
-    JournalInEtcd R told is_missed path to now errands answered.items saved old new
-KeepsJournalAt R true told is_missed path to now errands old new (locked_out left last) = ⊥
-KeepsJournalAt R false told is_missed path to now errands old new stepped =
-    KeepsJournalIn told is_missed path to now errands old new stepped
 
 -- ---- of what no client waits for
 

@@ -1,6 +1,5 @@
 pub mod Beginning
 pub mod Clients
-pub mod InEtcd
 pub mod Journaled
 pub mod Lines
 pub mod Orders

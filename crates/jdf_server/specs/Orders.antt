@@ -1,5 +1,5 @@
 -- What `serve` makes of orders that come over its local socket.
-use Rattle.std.specs.Prelude.{◌≡◌, ◌⊎◌, ◌++◌, ℕ, Bool, false, List, Option, Some, codes, string_bytes}
+use Rattle.std.specs.Prelude.{◌≡◌, ◌⊎◌, ◌++◌, ℕ, Bool, List, Option, Some, codes, string_bytes}
 use Rattle.mio.specs.declared.net.uds.stream.UnixStream.{UnixStream}
 use Rattle.stored_state.specs.declared.addressee.Addressee.{Addressee}
 use Rattle.stored_state.specs.declared.any_controller.AnyController.{AnyController}
@@ -14,7 +14,7 @@ use Rattle.shop_folder.specs.declared.owner.Owner.TheVariants as owners
 use Rattle.shop_folder.specs.declared.place.Place.{Place}
 use Rattle.shop_folder.specs.declared.place.Place.TheVariants as places
 use Rattle.jdf_server.specs.Requests.{LeadsToFile}
-use Rattle.jdf_server.specs.Steps.{TellsAt, TellsKept}
+use Rattle.jdf_server.specs.Steps.{TellsKept}
 use Rattle.jdf_server.specs.declared.order_steps.OrdersResult.{OrdersResult}
 use Rattle.jdf_server.specs.declared.order_steps.OrdersResult.TheVariants.{LockedOut, Told}
 use Rattle.jdf_server.specs.declared.route.Route.{Route}
@@ -39,14 +39,6 @@ AreOrdersStepped path to now orders last (Told told saved) =
     told.items saved
 AreOrdersStepped path to now orders last (LockedOut left kept) =
     (left.items ≡ orders) × (kept ≡ last)
-
--- the same of those who gave orders for the controller at a path, in its file or under its key
-abbrev pub AreOrdersSteppedAt : (R : Type 0) → Bool → List ℕ → Addressee → ℕ
-    → List (Errand UnixStream) → Option AnyController → OrdersResult → Type 0
-AreOrdersSteppedAt R in_etcd path to now orders last (Told told saved) =
-    TellsAt R (HasReply now) in_etcd path to orders told.items saved
-AreOrdersSteppedAt R in_etcd path to now orders last (LockedOut left kept) =
-    (in_etcd ≡ false) × (left.items ≡ orders) × (kept ≡ last)
 
 -- ---- the controller of a name
 

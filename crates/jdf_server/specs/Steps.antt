@@ -1,6 +1,6 @@
 -- What `serve` makes of those who wait for a controller. Nothing is known of what stands in a file,
 -- so that of one no keeper is honest.
-use Rattle.std.specs.Prelude.{◌≡◌, ◌⊎◌, ℕ, Bool, true, false, List, [], Option, Some, Result}
+use Rattle.std.specs.Prelude.{◌≡◌, ◌⊎◌, ℕ, Bool, List, [], Option, Some, Result}
 use Rattle.mio.specs.declared.net.stream.TcpStream.{TcpStream}
 use Rattle.slab.specs.Slab.{Slab}
 use Rattle.streams.specs.declared.refused.Refused.{Refused}
@@ -12,14 +12,11 @@ use Rattle.stored_state.specs.declared.any_controller.AnyController.{AnyControll
 use Rattle.stored_state.specs.declared.taken_bytes.TakenBytes.{TakenBytes}
 use Rattle.keepers.specs.SystemFile.{count, file_bytes, is_honest, keep_in_file, load_fails, place}
 use Rattle.keepers.specs.SystemFile.{save_fails}
-use Rattle.etcd_place.specs.Place.{is_etcd}
 use Rattle.rounds.specs.Line.{AreRefused, AreToldNone, HasAnswer, TellsLine, waiting_of}
 use Rattle.rounds.specs.declared.answered.AnsweredClient.{AnsweredClient}
 use Rattle.rounds.specs.declared.errand.Errand.{Errand}
 use Rattle.rounds.specs.declared.waiting.WaitingClient.{WaitingClient}
 use Rattle.jdf_server.specs.Clients.{AreGivenBack, AreLetGo, AreMissed}
-use Rattle.jdf_server.specs.InEtcd as etcd
-use Rattle.jdf_server.specs.InEtcd.{EtcdKeep, IsKeepAt}
 use Rattle.jdf_server.specs.Lines.{IsParted, Stays, is_gone, is_late}
 use Rattle.jdf_server.specs.declared.entry.Entry.{Entry}
 use Rattle.jdf_server.specs.declared.server.Server.{Server}
@@ -59,46 +56,19 @@ IsStepped path to now errands last (answered_so answered saved) =
 IsStepped path to now errands last (locked_out left kept) =
     (left.items ≡ errands) × (kept ≡ last)
 
--- those who wait for the controller under the key of etcd that a path names are told so, by the
--- keeper over that; or each is refused, with a status of 503
-abbrev pub TellsInEtcd : {S A : Type 0} → (R : Type 0)
-    → (Result TakenBytes Refused → WaitingClient S → A → Type 0) → List ℕ → Addressee
-    → List (Errand S) → List A → Option AnyController → Type 0
-TellsInEtcd R IsTold path to errands told saved =
-    ((keep : EtcdKeep R) × IsKeepAt path keep
-    × TellsKept IsTold etcd.is_honest etcd.value_bytes etcd.place etcd.count etcd.load_fails
-    etcd.save_fails keep to errands told saved)
-    ⊎ AreToldNone IsTold (waiting_of errands) told
-
--- those who wait for the controller at a path are told so: in the file there, or, where the path is
--- to be a place in etcd, under its key
-abbrev pub TellsAt : {S A : Type 0} → (R : Type 0)
-    → (Result TakenBytes Refused → WaitingClient S → A → Type 0) → Bool → List ℕ → Addressee
-    → List (Errand S) → List A → Option AnyController → Type 0
-TellsAt R IsTold true path to errands told saved = TellsInEtcd R IsTold path to errands told saved
-TellsAt R IsTold false path to errands told saved =
-    TellsKept IsTold is_honest file_bytes place count load_fails save_fails (keep_in_file path) to
-    errands told saved
-
--- the same of those who wait for the controller at a path; or somebody else has its file locked,
--- and they wait on
-abbrev pub IsSteppedAt : (R : Type 0) → Bool → List ℕ → Addressee → ℕ → List (Errand TcpStream)
-    → Option AnyController → StepsResult → Type 0
-IsSteppedAt R in_etcd path to now errands last (answered_so answered saved) =
-    TellsAt R (HasAnswer now) in_etcd path to errands answered.items saved
-IsSteppedAt R in_etcd path to now errands last (locked_out left kept) =
-    (in_etcd ≡ false) × (left.items ≡ errands) × (kept ≡ last)
-
 -- ---- what comes of a line
 
--- those who wait for the controller at this path have its responses, each under its own number
-pub record StepsClients (R : Type 0) (path : List ℕ) (to : Owner) (now : ℕ) (errands : List (Errand TcpStream))
+-- those who wait for the controller in the file of this path have its responses, each under its own
+-- number
+pub record StepsClients (path : List ℕ) (to : Owner) (now : ℕ) (errands : List (Errand TcpStream))
     (old new : Slab Entry) : Type 0 where
   pub addressee : Addressee
   pub addressed : addressed_owner addressee ≡ to
   pub answered : List (AnsweredClient TcpStream)
   pub saved : Option AnyController
-  pub steps : TellsAt R (HasAnswer now) (is_etcd path) path addressee errands answered saved
+  pub steps :
+      StepsKept is_honest file_bytes place count load_fails save_fails (keep_in_file path) addressee now
+      errands answered saved
   pub back : AreGivenBack (Some path) answered old new
 
 -- those who waited as long as they may are refused and put back, and these are left
@@ -121,8 +91,8 @@ WaitsOn path to errands old new =
 -- those of a line have the responses of its controller, or wait on
 abbrev pub StepsThere : {R F : Type 0} → List ℕ → Owner → List (Errand TcpStream)
     → (old new : Server R F) → Type 0
-StepsThere {R = R} path to errands old new =
-    StepsClients R path to old.clients.now errands old.clients.all new.clients.all
+StepsThere path to errands old new =
+    StepsClients path to old.clients.now errands old.clients.all new.clients.all
     ⊎ WaitsOn path to errands old new
 
 -- those of a line whose connections are broken are let go; and of the others, if there are any, each

@@ -5,7 +5,6 @@ ghost use Rattle.jdf_server.specs.Beginning.{AreClientsOf, IsBegun, ServesOn};
 
 use crate::accepting::LISTENER;
 use crate::clients::Clients;
-use crate::engine::Engine;
 use crate::health::Health;
 use crate::orders::ORDERS;
 use crate::page::PAGE;
@@ -124,7 +123,6 @@ fn server<'a, R: Locks + Net + Clock + Alloc + Clone + Drop, F: Write + Drop>(
         readers: Guests::new(alloc, PAGE),
         operators: Guests::new(alloc, ORDERS),
         health: Health::new(),
-        engine: Engine::new(),
         lines: IndexMap::new(alloc),
         is_locked_out: false,
         saved,

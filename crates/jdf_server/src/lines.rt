@@ -10,15 +10,13 @@ ghost use Rattle.jdf_server.specs.Steps.{StepsLineTo, StepsThere, WaitsOn};
 ghost use Rattle.std.specs.Option.{option_map};
 
 use crate::entry::Entry;
-use crate::etcd_folder::{begin_at, is_missing_at};
-use crate::etcd_steps::step_at;
 use crate::hearing::hear_all;
 use crate::line::Line;
 use crate::own::Own;
 use crate::post::Post;
 use crate::route::{Route, route_of};
 use crate::server::Server;
-use crate::stepping::StepsResult;
+use crate::stepping::{StepsResult, begin_in_file, is_missing, step_in_file};
 use controller::{Body, Message};
 use http_edge::Received;
 use http_message::lone_field;
@@ -184,7 +182,7 @@ impl<'a, R: Locks + Net + Clock, F: Write + Drop> Server<'a, R, F> {
     ) -> Result<(), AllocError>
         ensures { OnOk result (StandsOrMisses waiting message self.old self.new) }
     {
-        match route_of(self.rt, self.alloc, &self.place, &message, &mut self.engine)? {
+        match route_of(self.rt, self.alloc, &self.place, &message)? {
             Some(route) => self.stand(route, waiting, Coming::Message(message)),
             None => self.clients.miss(waiting),
         }
@@ -244,7 +242,7 @@ impl<'a, R: Locks + Net + Clock, F: Write + Drop> Server<'a, R, F> {
     pub(crate) fn is_missing(&self, path: &str) -> bool {
         match self.place {
             Place::File(_) => false,
-            Place::Folder(_) => is_missing_at(self.rt, self.alloc, path, self.engine),
+            Place::Folder(_) => is_missing(self.rt, path),
         }
     }
 
@@ -257,7 +255,7 @@ impl<'a, R: Locks + Net + Clock, F: Write + Drop> Server<'a, R, F> {
         }
         match to {
             Owner::WorkerOf(name, master) => {
-                begin_at(self.rt, self.alloc, path, name, master)
+                begin_in_file(self.rt, self.alloc, path, name, master)
             }
             Owner::Any | Owner::Named(_) => false,
         }
@@ -338,7 +336,7 @@ impl<'a, R: Locks + Net + Clock, F: Write + Drop> Server<'a, R, F> {
         } = line;
         let addressee = to.as_addressee();
         let mut journal = FileJournal::at(self.rt, self.journal);
-        let stepped = step_at(
+        let stepped = step_in_file(
             self.rt,
             self.alloc,
             path.as_str(),
@@ -346,7 +344,6 @@ impl<'a, R: Locks + Net + Clock, F: Write + Drop> Server<'a, R, F> {
             addressee,
             errands,
             self.clients.now,
-            &mut self.engine,
             &mut journal,
         )?;
         self.clients.tell_missed(&journal);

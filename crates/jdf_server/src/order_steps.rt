@@ -1,29 +1,23 @@
 //! The steps of a controller by orders that come over the local socket.
 
-ghost use Rattle.std.specs.Prelude.{◌≡◌, length, true, IfOk};
+ghost use Rattle.std.specs.Prelude.{◌≡◌, length, IfOk};
 ghost use Rattle.rounds.specs.Line.{AreToldOf, HasRoom, waiting_of};
 ghost use Rattle.rounds.specs.Orders.{HasReply};
-ghost use Rattle.etcd_place.specs.Place.{is_etcd as is_etcd_text};
-ghost use Rattle.jdf_server.specs.Orders.{AreOrdersStepped, AreOrdersSteppedAt, OrdersKept};
+ghost use Rattle.jdf_server.specs.Orders.{AreOrdersStepped, OrdersKept};
 
-use crate::engine::{Engine, orders_are_failed};
-use crate::etcd_steps::keep_for;
 use crate::journaling::{journal_order_steps, words_of};
 use crate::line::Line;
 use crate::server::Server;
-use etcd_place::is_etcd;
 use http_message::missing_bytes;
 use journal::{FileJournal, Journal, seconds};
-use keepers::{FileKeep, Locks};
+use keepers::{FileKeep, Keep, Locks};
 use mio::net::UnixStream;
-use rounds::{
-    AnsweredOperator, Errand, Room, RoundKeep, WaitingClient, answer_all, refuse_errands,
-};
+use rounds::{AnsweredOperator, Errand, Room, WaitingClient, answer_all, refuse_errands};
 use shop_folder::Owner;
 use std::alloc::{AllocError, Global};
 use std::io::Write;
 use std::net::Net;
-use std::time::{Clock, Instant};
+use std::time::Clock;
 use stored_state::{Addressee, SavedState};
 use streams::Refused;
 
@@ -68,7 +62,7 @@ fn refused_orders(
 /// addressed, by its steps at the time of the clock; each is refused where that tells no time since
 /// 1970. The lines of the steps are appended to the journal behind the save, and then the keeper is
 /// let go.
-fn order_kept<R: Clock, K: RoundKeep, J: Journal, S: Drop>(
+fn order_kept<R: Clock, K: Keep, J: Journal, S: Drop>(
     rt: &R,
     alloc: Global,
     mut keep: K,
@@ -126,58 +120,6 @@ fn order_in_file<R: Locks + Clock, J: Journal>(
             Ok(OrdersResult::Told(refuse_errands(alloc, orders, room, refused, now), None))
         }
     }
-}
-
-/// The steps by orders at the controller under the key that a path names, if that is one that is
-/// addressed. Each is refused where the engine is left alone.
-fn order_in_etcd<R: Net + Clock, J: Journal>(
-    rt: &R,
-    alloc: Global,
-    path: &str,
-    last: Option<SavedState>,
-    to: Addressee<'_>,
-    orders: Vec<Errand<UnixStream>>,
-    now: u64,
-    engine: &mut Engine,
-    journal: &mut J,
-) -> Result<OrdersResult, AllocError>
-    ensures { IfOk result (AreOrdersSteppedAt R true path.now to.entry now orders.items last) }
-{
-    let room = Room::new(alloc, orders.len())?;
-    let found = keep_for(rt, alloc, path, engine)?;
-    let Some(keep) = found else {
-        drop(last);
-        let told = refuse_errands(alloc, orders, room, Refused::LoadFailed, now);
-        return Ok(OrdersResult::Told(told, None));
-    };
-    let asked = Instant::now(rt).ok();
-    let (told, saved) = order_kept(rt, alloc, keep, last, to, orders, room, now, journal);
-    engine.note(rt, asked, orders_are_failed(told.as_slice()));
-    Ok(OrdersResult::Told(told, saved))
-}
-
-/// The steps by orders at the controller at a path, in its file or under its key, if that is one
-/// that is addressed.
-fn order_at<R: Locks + Net + Clock, J: Journal>(
-    rt: &R,
-    alloc: Global,
-    path: &str,
-    last: Option<SavedState>,
-    to: Addressee<'_>,
-    orders: Vec<Errand<UnixStream>>,
-    now: u64,
-    engine: &mut Engine,
-    journal: &mut J,
-) -> Result<OrdersResult, AllocError>
-    ensures { IfOk result (AreOrdersSteppedAt R (is_etcd_text path.now) path.now to.entry now
-        orders.items last) }
-{
-    if is_etcd(path) {
-        return order_in_etcd(
-            rt, alloc, path, last, to, orders, now, engine, journal,
-        );
-    }
-    order_in_file(rt, alloc, path, last, to, orders, now, journal)
 }
 
 /// Those of these orders that may wait on at this moment, and those that waited as long as they
@@ -324,7 +266,7 @@ impl<'a, R: Locks + Net + Clock, F: Write + Drop> Server<'a, R, F> {
         }
         let last = self.saved.take(path);
         let mut journal = FileJournal::at(self.rt, self.journal);
-        let stepped = order_at(
+        let stepped = order_in_file(
             self.rt,
             self.alloc,
             path,
@@ -332,7 +274,6 @@ impl<'a, R: Locks + Net + Clock, F: Write + Drop> Server<'a, R, F> {
             to.as_addressee(),
             orders,
             self.clients.now,
-            &mut self.engine,
             &mut journal,
         )?;
         self.clients.tell_missed(&journal);

@@ -45,7 +45,7 @@ impl<'a, R: Locks + Net + Clock + Alloc + Clone + Drop, F: Write + Drop> Server<
         name: &str,
         body: &Body,
     ) -> Result<(), AllocError> {
-        match named_route(self.rt, self.alloc, &self.place, name, &mut self.engine)? {
+        match named_route(self.rt, self.alloc, &self.place, name)? {
             Some(route) => {
                 let coming = Coming::Order(bytes_of(self.alloc, body)?);
                 self.join_order(route, Errand { waiting, coming })

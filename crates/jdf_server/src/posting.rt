@@ -2,12 +2,11 @@
 
 ghost use Rattle.std.specs.Prelude.{◌≡◌, ◌<◌, ◌≤◌, length, IfOk, IfSome};
 
-use crate::etcd_steps::step_own_at;
 use crate::line::Line;
 use crate::own::{Own, Parcel, Task};
 use crate::post::Post;
 use crate::server::Server;
-use crate::stepping::OwnStepResult;
+use crate::stepping::{OwnStepResult, step_own_in_file};
 use crate::watched::{ControllerView, ControllerViews};
 use deliveries::Flight;
 use indexmap::IndexMap;
@@ -339,14 +338,13 @@ impl<'a, R: Locks + Net + Clock, F: Write + Drop> Server<'a, R, F> {
     {
         let last = self.saved.take(path);
         let mut journal = FileJournal::at(self.rt, self.journal);
-        let stepped = step_own_at(
+        let stepped = step_own_in_file(
             self.rt,
             self.alloc,
             path,
             last,
             to.as_addressee(),
             comings,
-            &mut self.engine,
             &mut journal,
         );
         self.clients.tell_missed(&journal);

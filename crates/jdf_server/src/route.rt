@@ -5,15 +5,11 @@ ghost use Rattle.shop_folder.specs.Routes as routes;
 ghost use Rattle.jdf_server.specs.Orders.{IsWorkerFile, LeadsByName, LeadsInFolder, LeadsToNamed};
 ghost use Rattle.jdf_server.specs.Requests.{LeadsNowhere, LeadsTo, owner_for};
 
-use crate::engine::Engine;
-use crate::etcd_folder::lies_at;
 use crate::telling::name_of;
 use controller::Message;
 use shop_folder::{Lies, Owner, Place, file_for, in_folder};
 use std::alloc::{AllocError, Global};
-use std::net::Net;
 use std::rt::Files;
-use std::time::Clock;
 use ticket_tree::{Duplicate, Id};
 
 /// The file of a controller, and which one it is for.
@@ -52,12 +48,11 @@ fn route_by(
 
 /// The controller of a place to which a message leads: the one that is served, or the one of the
 /// folder to whose file its receiver and its sender lead.
-pub(crate) fn route_of<R: Files + Net + Clock>(
+pub(crate) fn route_of<R: Files>(
     rt: &R,
     alloc: Global,
     place: &Place<'_>,
     message: &Message,
-    engine: &mut Engine,
 ) -> Result<Option<Route>, AllocError>
     // Proved: A message leads to the file that is served; or in the folder to the one to which its
     // receiver and its sender lead, by what lies there.
@@ -72,8 +67,7 @@ pub(crate) fn route_of<R: Files + Net + Clock>(
         })),
         Place::Folder(folder) => {
             let under = in_folder(alloc, folder, message.receiver.as_str())?;
-            let lies = lies_at(rt, alloc, under.as_str(), engine)?;
-            route_by(alloc, folder, lies, message)
+            route_by(alloc, folder, Lies::at(rt, under.as_str()), message)
         }
     }
 }
@@ -118,7 +112,7 @@ fn named_worker(
 }
 
 /// The file of a name as that of a controller in a folder is told: `job-17`, or `press/job-17`.
-pub(crate) fn named_in(alloc: Global, folder: &str, name: &str) -> Result<Option<Route>, AllocError>
+fn named_in(alloc: Global, folder: &str, name: &str) -> Result<Option<Route>, AllocError>
     ensures { IfOk result (λ route. IfSome route (LeadsInFolder folder.now name.now)) }
 {
     match name.split_once('/') {
@@ -128,27 +122,21 @@ pub(crate) fn named_in(alloc: Global, folder: &str, name: &str) -> Result<Option
 }
 
 /// A route, if its file is there.
-fn if_there<R: Files + Net + Clock>(
-    rt: &R,
-    alloc: Global,
-    route: Route,
-    engine: &mut Engine,
-) -> Result<Option<Route>, AllocError>
-    ensures { IfOk result (λ found. IfSome found (λ r. r ≡ route)) }
+fn if_there<R: Files>(rt: &R, route: Route) -> Option<Route>
+    ensures { IfSome result (λ r. r ≡ route) }
 {
-    match lies_at(rt, alloc, route.path.as_str(), engine)? {
-        Lies::File => Ok(Some(route)),
-        Lies::Folder | Lies::Nothing => Ok(None),
+    match Lies::at(rt, route.path.as_str()) {
+        Lies::File => Some(route),
+        Lies::Folder | Lies::Nothing => None,
     }
 }
 
 /// The controller of this name in what is served, as the log tells names, if its file is there.
-pub(crate) fn named_route<R: Files + Net + Clock>(
+pub(crate) fn named_route<R: Files>(
     rt: &R,
     alloc: Global,
     place: &Place<'_>,
     name: &str,
-    engine: &mut Engine,
 ) -> Result<Option<Route>, AllocError>
     ensures { IfOk result (λ route. IfSome route (LeadsByName place.now name.now)) }
 {
@@ -163,7 +151,7 @@ pub(crate) fn named_route<R: Files + Net + Clock>(
             }))
         }
         Place::Folder(folder) => match named_in(alloc, folder, name)? {
-            Some(route) => if_there(rt, alloc, route, engine),
+            Some(route) => Ok(if_there(rt, route)),
             None => Ok(None),
         },
     }

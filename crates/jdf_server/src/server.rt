@@ -1,5 +1,4 @@
 use crate::clients::Clients;
-use crate::engine::Engine;
 use crate::health::Health;
 use crate::line::Line;
 use crate::post::Post;
@@ -33,8 +32,6 @@ pub struct Server<'a, R, F> {
     /// Those who give orders.
     pub(crate) operators: Guests<OrderListener>,
     pub(crate) health: Health,
-    /// The engine that keeps what is served, where that isn't a file.
-    pub(crate) engine: Engine,
     /// Those whose requests wait, by the paths of their controllers, in the order of their turns.
     pub(crate) lines: IndexMap<String, Line>,
     /// Whether a line waits for a file that somebody else has locked.

@@ -13,13 +13,13 @@ use crate::journaling::{
 use journal::{Journal, seconds};
 use keepers::{FileKeep, Keep, KeepFault, Locks};
 use mio::net::TcpStream;
-use rounds::{AnsweredClient, Errand, Room, RoundKeep, answer_all, refuse_errands};
+use rounds::{AnsweredClient, Errand, Room, answer_all, refuse_errands};
 use std::alloc::{AllocError, Global};
 use std::fs;
 use std::io::ErrorKind;
 use std::rt::Files;
 use std::time::Clock;
-use stored_state::{Addressee, Coming, Kept, SavedState, Snapshot, TakenBytes, open_any};
+use stored_state::{Addressee, Coming, Kept, SavedState, Snapshot, TakenBytes, open_any, take_all};
 use streams::Refused;
 use ticket_tree::{Duplicate, Id, Refusal};
 use worker_core::Worker;
@@ -46,7 +46,7 @@ pub(crate) fn is_missing<R: Files>(rt: &R, path: &str) -> bool {
 /// addressed, by its steps at the time of the clock; each is refused where that tells no time since
 /// 1970. The lines of the steps are appended to the journal behind the save, and then the keeper is
 /// let go.
-pub(crate) fn step_kept<R: Clock, K: RoundKeep, J: Journal, S: Drop>(
+fn step_kept<R: Clock, K: Keep, J: Journal, S: Drop>(
     rt: &R,
     alloc: Global,
     mut keep: K,
@@ -126,7 +126,7 @@ pub(crate) fn step_in_file<R: Locks + Clock, J: Journal>(
 }
 
 /// Begins a worker of this name for this master. Answers whether the keeper has it.
-pub(crate) fn begin_kept<K: Keep>(alloc: Global, keep: K, name: &Id, master: &Id) -> bool {
+fn begin_kept<K: Keep>(alloc: Global, keep: K, name: &Id, master: &Id) -> bool {
     let Ok(name) = name.copy(alloc) else {
         drop(keep);
         return false;
@@ -171,7 +171,7 @@ pub(crate) enum OwnStepResult {
 /// The steps of the controller that a keeper holds, if that is one that is addressed, at a time, by
 /// what comes that no client waits for. Their lines are appended to the journal behind the save,
 /// and then the keeper is let go.
-pub(crate) fn step_own_kept<K: RoundKeep, J: Journal>(
+fn step_own_kept<K: Keep, J: Journal>(
     alloc: Global,
     mut keep: K,
     last: Option<SavedState>,
@@ -185,7 +185,7 @@ pub(crate) fn step_own_kept<K: RoundKeep, J: Journal>(
         → KeepsOwnJournal J.held J.is_missed at all.items journal.old journal.new result }
 {
     let calls = calls_of_comings(alloc, journal, all.as_slice());
-    match keep.take_round(alloc, last, to, all, at) {
+    match take_all(alloc, &mut keep, last, to, all, at) {
         Ok((given, saved)) => {
             journal_own_steps(alloc, journal, calls, given.as_slice(), &saved, at);
             OwnStepResult::Stepped(given, saved)
@@ -196,7 +196,7 @@ pub(crate) fn step_own_kept<K: RoundKeep, J: Journal>(
 
 /// The same, where the keeper was found so: nothing is done where somebody else has it locked, or
 /// where it can't be locked.
-fn step_own_found<K: RoundKeep, J: Journal>(
+fn step_own_found<K: Keep, J: Journal>(
     alloc: Global,
     found: Result<Option<K>, KeepFault>,
     last: Option<SavedState>,
@@ -230,7 +230,7 @@ pub(crate) fn step_own_in_file<R: Locks + Clock, J: Journal>(
     step_own_found(alloc, found, last, to, all, at, journal)
 }
 
-/// What is found in a file, or under a key.
+/// What is found in a file.
 #[derive(Drop)]
 pub(crate) enum Look {
     /// The controller that is addressed.
@@ -241,8 +241,6 @@ pub(crate) enum Look {
     Nothing,
     /// Somebody else has it locked.
     LockedOut,
-    /// The engine that keeps it doesn't tell.
-    Unanswered,
 }
 
 /// Whether a keeper holds the text that was saved last.
@@ -254,7 +252,7 @@ fn holds_saved<K: Keep>(keep: &mut K, last: &Option<SavedState>) -> bool {
 }
 
 /// What the keeper holds that was found so, if that is the controller that is addressed.
-pub(crate) fn look_at<K: Keep>(
+fn look_at<K: Keep>(
     alloc: Global,
     found: Result<Option<K>, KeepFault>,
     to: Addressee<'_>,
@@ -287,10 +285,7 @@ pub(crate) fn look_in_file<R: Locks>(
 }
 
 /// Whether a controller can be loaded of the keeper that was found so. Refuses as `check_file`.
-pub(crate) fn check_found<K: Keep>(
-    alloc: Global,
-    found: Result<K, KeepFault>,
-) -> Result<(), Refused> {
+fn check_found<K: Keep>(alloc: Global, found: Result<K, KeepFault>) -> Result<(), Refused> {
     match found {
         Ok(keep) => open_any(alloc, keep)?,
         Err(_) => return Err(Refused::LoadFailed),
@@ -300,6 +295,6 @@ pub(crate) fn check_found<K: Keep>(
 
 /// Whether a controller can be loaded of a file. Refuses `LoadFailed`, what the file holds is
 /// refused for, and `Memory`.
-pub(crate) fn check_file<R: Locks>(rt: &R, alloc: Global, file: &str) -> Result<(), Refused> {
+pub fn check_file<R: Locks>(rt: &R, alloc: Global, file: &str) -> Result<(), Refused> {
     check_found(alloc, FileKeep::lock(rt, alloc, file))
 }

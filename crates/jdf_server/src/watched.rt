@@ -1,11 +1,10 @@
 //! The controllers that are served, as their files were looked at last.
 
-use crate::mark::Mark;
-use crate::route::Route;
 use indexmap::IndexMap;
 use job_list::{Work, push_entries, push_spawns};
 use shop_folder::Owner;
 use std::alloc::{AllocError, Global};
+use std::time::SystemTime;
 use stored_state::AnyController;
 use ticket_tree::Id;
 
@@ -49,20 +48,13 @@ impl ControllerView {
 #[derive(Drop)]
 pub(crate) struct Seat {
     pub owner: Owner,
-    /// What told of it when it was looked at last.
-    pub seen_at: Option<Mark>,
+    /// When its file was changed, as it was looked at last.
+    pub seen_at: Option<SystemTime>,
     /// Whether its file was there then.
     pub is_there: bool,
     /// What a page tells of it; nothing where its file holds no controller of its name, or wasn't
     /// read yet.
     pub shown: Option<ControllerView>,
-}
-
-/// A controller where it lies, and what tells of it now (our own).
-#[derive(Drop)]
-pub(crate) struct MarkedFile {
-    pub route: Route,
-    pub mark: Option<Mark>,
 }
 
 /// All of them.
@@ -143,7 +135,7 @@ impl ControllerViews {
         &mut self,
         path: String,
         owner: Owner,
-        changed: Option<Mark>,
+        changed: Option<SystemTime>,
     ) -> Result<(), AllocError> {
         if let Some(number) = self.controllers.get_index_of(path.as_str()) {
             drop(owner);
@@ -163,7 +155,7 @@ impl ControllerViews {
     fn notice_again(
         &mut self,
         number: usize,
-        changed: Option<Mark>,
+        changed: Option<SystemTime>,
     ) -> Result<(), AllocError> {
         let Some(seat) = self.controllers.get_index_mut(number) else {
             return Ok(());

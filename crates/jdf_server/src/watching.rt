@@ -1,17 +1,10 @@
 //! The files of what is served, and the peers' file, as they change beside the server.
 
-use crate::engine::Engine;
-use crate::etcd_folder::controllers_in;
-use crate::etcd_steps::look_at_path;
 use crate::houses::Houses;
 use crate::lines::keep_in;
-use crate::mark::Mark;
 use crate::post::Post;
-use crate::route::Route;
 use crate::server::Server;
-use crate::stepping::Look;
-use crate::watched::MarkedFile;
-use etcd_place::is_etcd;
+use crate::stepping::{Look, look_in_file};
 use keepers::Locks;
 use peers_file::peers_in_file;
 use shop_folder::{FolderFile, Owner, Place, files_in};
@@ -35,64 +28,21 @@ pub(crate) fn changed_at<R: Files>(rt: &R, path: &str) -> Option<SystemTime> {
     there.modified().ok()
 }
 
-/// What tells of a file whether it is to be read again: when it was changed.
-fn mark_of<R: Files>(rt: &R, path: &str) -> Option<Mark> {
-    match changed_at(rt, path) {
-        Some(changed) => Some(Mark::Moment(changed)),
-        None => None,
-    }
-}
-
-/// The same of the one controller that is served: under a key it is read at each look.
-fn mark_of_one<R: Files + Clock>(rt: &R, path: &str) -> Option<Mark> {
-    if !is_etcd(path) {
-        return mark_of(rt, path);
-    }
-    match SystemTime::now(rt) {
-        Ok(now) => Some(Mark::Moment(now)),
-        Err(_) => None,
-    }
-}
-
-/// The files of a folder.
+/// What is served, as files.
 fn files_of<R: Files + Alloc + Clone + Drop>(
     rt: &R,
     alloc: Global,
-    folder: &str,
-) -> io::Result<Vec<MarkedFile>> {
-    let files = files_in(rt, alloc, folder)?;
-    let mut marked = Vec::with_capacity(alloc, files.len())?;
-    for FolderFile { path, owner } in files {
-        let mark = mark_of(rt, path.as_str());
-        let route = Route { path, to: owner };
-        marked.push(MarkedFile { route, mark })?;
-    }
-    Ok(marked)
-}
-
-/// What is served, where that can be told.
-fn served_now<R: Files + Net + Clock + Alloc + Clone + Drop>(
-    rt: &R,
-    alloc: Global,
     place: &Place<'_>,
-    engine: &mut Engine,
-) -> Result<Option<Vec<MarkedFile>>, AllocError> {
+) -> io::Result<Vec<FolderFile>> {
     match place {
         Place::File(file) => {
             let mut files = Vec::with_capacity(alloc, 1)?;
-            let mark = mark_of_one(rt, file);
             let path = String::from_str(alloc, file)?;
-            let to = Owner::Any;
-            let route = Route { path, to };
-            files.push(MarkedFile { route, mark })?;
-            Ok(Some(files))
+            let owner = Owner::Any;
+            files.push(FolderFile { path, owner })?;
+            Ok(files)
         }
-        Place::Folder(folder) => {
-            if is_etcd(folder) {
-                return controllers_in(rt, alloc, folder, engine);
-            }
-            Ok(files_of(rt, alloc, folder).ok())
-        }
+        Place::Folder(folder) => files_in(rt, alloc, folder),
     }
 }
 
@@ -175,14 +125,13 @@ impl<'a, R: Locks + Net + Clock + Alloc + Clone + Drop, F: Write + Drop> Server<
         }
         self.watched.look_at = self.clients.now.saturating_add(LOOK_TIME);
         self.watch_peers()?;
-        let (rt, engine) = (self.rt, &mut self.engine);
-        let Some(files) = served_now(rt, self.alloc, &self.place, engine)? else {
+        let Ok(files) = files_of(self.rt, self.alloc, &self.place) else {
             return Ok(());
         };
         self.watched.forget_places();
-        for MarkedFile { route, mark } in files {
-            let Route { path, to } = route;
-            self.watched.notice(path, to, mark)?;
+        for FolderFile { path, owner } in files {
+            let changed = changed_at(self.rt, path.as_str());
+            self.watched.notice(path, owner, changed)?;
         }
         Ok(())
     }
@@ -211,7 +160,7 @@ impl<'a, R: Locks + Net + Clock + Alloc + Clone + Drop, F: Write + Drop> Server<
         match (look, last) {
             (Look::Found(found), _) => self.see_controller(number, found.controller()),
             (Look::Same, Some(saved)) => self.see_controller(number, saved.controller()),
-            (Look::LockedOut | Look::Unanswered, _) => {
+            (Look::LockedOut, _) => {
                 if let Some(seat) = self.watched.controllers.get_index_mut(number) {
                     seat.seen_at = None;
                 }
@@ -232,8 +181,7 @@ impl<'a, R: Locks + Net + Clock + Alloc + Clone + Drop, F: Write + Drop> Server<
         };
         let last = self.saved.take(path.as_str());
         let to = seat.owner.as_addressee();
-        let (rt, engine) = (self.rt, &mut self.engine);
-        let look = look_at_path(rt, self.alloc, path.as_str(), to, &last, engine);
+        let look = look_in_file(self.rt, self.alloc, path.as_str(), to, &last);
         let path = path.clone()?;
         let seen = self.see_look(number, &look, &last);
         drop(look);

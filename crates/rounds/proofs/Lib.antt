@@ -1,5 +1,3 @@
-pub mod Anewed
 pub mod Answering
-pub mod CellStep
 pub mod Keeping
 mod Parting

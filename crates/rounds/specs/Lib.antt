@@ -1,4 +1,3 @@
-pub mod Anew
 pub mod Kept
 pub mod Line
 pub mod Orders

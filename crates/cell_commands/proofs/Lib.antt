@@ -1,3 +1,0 @@
-mod Giving
-mod Making
-mod Stepped

@@ -1,7 +1,0 @@
-use Rattle.std.proofs.Common.{IfSome, inl, subst}
-use Rattle.jdf_server.specs.InEtcd.{IsKeepAt}
-use Rattle.jdf_server.proofs.order_steps.order_in_etcd.Goals as goal
-
-pub returns : goal.returns
-returns g c =
-    inl (c.in-Some.keep, subst (λ found. IfSome found (IsKeepAt c.args.path.now)) c.in-Some.is c.in_ok-found.ensures, c.order_kept-told.ensures)
