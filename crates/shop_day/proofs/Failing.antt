@@ -73,8 +73,7 @@ no_order_by w name bytes c e why (inr (v, other, found, same)) =
 
 -- ---- what is left
 
-module _ {K : Type 0} (is_honest : K → Bool) (held place : K → List ℕ) (count : K → ℕ) (save_fails : K → List ℕ → K → Type 0) (w : State) (name : List ℕ) (l : Line) (keep : K) (before then : KeptState AnyController K) (Refuses : Refusal → Type 0) (IsStep : TextStep AnyController → Type 0) (honest : is_honest keep ≡ true) (loaded : IsLoaded is_honest held place keep before)
-    (refused_so : (e : Refusal) → Refuses e → GivesUp l.call (shows w) (Input (refused.Core e))) (failed_so : (fault : Fault) → IsFailed fault → GivesUp l.call (shows w) fault) (goes : (step : TextStep AnyController) → IsStep step → (what : What) × IsMade w name what l.at step × ((new : State) (outcome : Outcome) → StepsTo what l.at w new outcome → DoesLine l w new outcome)) where
+module _ {K : Type 0} (is_honest : K → Bool) (held place : K → List ℕ) (count : K → ℕ) (save_fails : K → List ℕ → K → Type 0) (w : State) (name : List ℕ) (l : Line) (keep : K) (before then : KeptState AnyController K) (Refuses : Refusal → Type 0) (IsStep : TextStep AnyController → Type 0) (honest : is_honest keep ≡ true) (loaded : IsLoaded is_honest held place keep before) (refused_so : (e : Refusal) → Refuses e → GivesUp l.call (shows w) (Input (refused.Core e))) (failed_so : (fault : Fault) → IsFailed fault → GivesUp l.call (shows w) fault) (goes : (step : TextStep AnyController) → IsStep step → (what : What) × IsMade w name what l.at step × ((new : State) (outcome : Outcome) → StepsTo what l.at w new outcome → DoesLine l w new outcome)) where
   abbrev Leaves : Fault → Type 0
   Leaves fault = (new : State) × DoesLine l w new (GaveUp fault) × HoldsEither held w new name keep then.keep
 

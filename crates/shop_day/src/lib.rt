@@ -13,6 +13,8 @@ mod running;
 mod sending;
 mod showing;
 mod stepping;
+#[cfg(test)]
+mod tests;
 
 pub use cut_keepers::{CutKeepers, NamedCuts};
 pub use line::{Call, Line};

@@ -99,7 +99,7 @@ fn comes_again(alloc: Global, shop: &mut Shop, step: &Step, last: u64) -> Result
         return Ok(true);
     }
     let sent = done(alloc, shop, order(alloc, step.to, step.resend)?, step.at)?;
-    Ok(wrote(&again, step.again) && wrote(&sent, "Resent"))
+    Ok(wrote(&again, step.again) && wrote(&sent, "Sent S1\n"))
 }
 
 /// Whether a step comes to its line, now or when it is given again.

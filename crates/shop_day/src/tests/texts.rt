@@ -52,7 +52,7 @@ pub static STEPS: [Step; 7] = [
         again: "Refused 31 NotOpen",
         resend: r#"{"Order":"Resend","SpawnID":"S1"}"#,
     },
-    taken(135, "Merged S1\n", "Again S1\n"),
+    taken(135, "Merged S1\n", "Already S1\n"),
     taken(140, "Acked S1\n", "Acked S1\n"),
 ];
 
