@@ -1,0 +1,5 @@
+pub mod Lines
+pub mod Files
+pub mod Done
+pub mod Replayed
+pub mod Laws
