@@ -15,7 +15,8 @@ use Rattle.plain_shop.specs.Step.{StepOrWord}
 use Rattle.stored_state.specs.AnyStep.{IsHanded, IsOrdered, take_step_of, text_of}
 use Rattle.stored_state.specs.Held.{KeptState}
 use Rattle.stored_state.specs.Message.{message_text}
-use Rattle.stored_state.specs.Opened.{AnyController, any_state_read}
+use Rattle.stored_state.specs.Opened.{any_state_read}
+use Rattle.stored_state.specs.declared.any_controller.AnyController.{AnyController}
 use Rattle.stored_state.specs.Step.{TextStep}
 use Rattle.streams.specs.declared.command.Output.{Output}
 use Rattle.world.specs.Controllers.{Controllers}

@@ -14,7 +14,10 @@ use Rattle.serde_json.specs.Data.{Data}
 use Rattle.stored_state.specs.AnyStep.{IsHanded, IsNoOrder, IsOrdered, text_of}
 use Rattle.stored_state.specs.Message.{message_text}
 use Rattle.stored_state.specs.Held.{GivesNothing, KeptState}
-use Rattle.stored_state.specs.Opened.{AnyController, any_state_read, of_master, of_worker}
+use Rattle.stored_state.specs.Opened.{any_state_read}
+use Rattle.stored_state.specs.declared.any_controller.AnyController.{AnyController}
+use Rattle.stored_state.specs.declared.any_controller.AnyController.TheVariants.{Master as of_master}
+use Rattle.stored_state.specs.declared.any_controller.AnyController.TheVariants.{Worker as of_worker}
 use Rattle.stored_state.specs.Step.{IsLeft, TextStep}
 use Rattle.streams.specs.declared.fault.Fault.{Fault}
 use Rattle.streams.specs.declared.fault.Fault.TheVariants.{Device, Input}

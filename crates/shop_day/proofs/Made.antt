@@ -21,7 +21,9 @@ use Rattle.jmf_message.specs.Decoded.{IsDecodedAs, message_read}
 use Rattle.stored_state.specs.AnyStep.{IsHanded, IsOrdered, take_step_of}
 use Rattle.stored_state.specs.Message.{message_text}
 use Rattle.stored_state.specs.Names.{master_order_names, master_take_names, worker_order_names, worker_take_names}
-use Rattle.stored_state.specs.Opened.{AnyController, of_master, of_worker}
+use Rattle.stored_state.specs.declared.any_controller.AnyController.{AnyController}
+use Rattle.stored_state.specs.declared.any_controller.AnyController.TheVariants.{Master as of_master}
+use Rattle.stored_state.specs.declared.any_controller.AnyController.TheVariants.{Worker as of_worker}
 use Rattle.stored_state.specs.Seat.{read_in}
 use Rattle.stored_state.specs.Step.{IsOfOrder, TextStep, in_text}
 use Rattle.stored_state.specs.declared.cause.StepInput.TheVariants as causes

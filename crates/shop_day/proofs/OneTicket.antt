@@ -6,7 +6,8 @@ use Rattle.serde_json.specs.Written.{compact_text}
 use Rattle.json_text.specs.Written.{shown_data}
 use Rattle.master_core.specs.Master as master
 use Rattle.plain_shop.specs.Replay as replay
-use Rattle.stored_state.specs.Opened.{AnyController, of_master}
+use Rattle.stored_state.specs.declared.any_controller.AnyController.{AnyController}
+use Rattle.stored_state.specs.declared.any_controller.AnyController.TheVariants.{Master as of_master}
 use Rattle.streams.specs.declared.command.Output.{Output}
 use Rattle.world.proofs.Master.MarksShown.{marks_are_shown}
 use Rattle.world.proofs.Master.TicketSeen.{ticket_is_seen}

@@ -3,7 +3,10 @@ use Rattle.std.specs.Prelude.{◌≡◌, ℕ, Bool, true, List, if◌then◌else
 use Rattle.std.specs.Option.{option_map}
 use Rattle.std.specs.Str.{bytes_eq}
 use Rattle.json_profile.specs.ReadAs.{IsReadAs}
-use Rattle.stored_state.specs.Opened.{AnyController, any_state_read, of_master, of_worker}
+use Rattle.stored_state.specs.Opened.{any_state_read}
+use Rattle.stored_state.specs.declared.any_controller.AnyController.{AnyController}
+use Rattle.stored_state.specs.declared.any_controller.AnyController.TheVariants.{Master as of_master}
+use Rattle.stored_state.specs.declared.any_controller.AnyController.TheVariants.{Worker as of_worker}
 use Rattle.world.specs.Controllers.{Controllers, worker_of}
 use Rattle.world.specs.State.{State}
 use Rattle.jdf_commands.specs.FileCommands.Commands.{shown_text}

@@ -7,7 +7,7 @@ use Rattle.jmf_message.specs.Decoded.{IsDecodedAs, IsRefusalOf}
 use Rattle.stored_state.specs.AnyStep.{IsHanded, IsNoOrder, IsOrdered, text_of}
 use Rattle.stored_state.specs.Held.{KeptState}
 use Rattle.stored_state.specs.Message.{message_text}
-use Rattle.stored_state.specs.Opened.{AnyController}
+use Rattle.stored_state.specs.declared.any_controller.AnyController.{AnyController}
 use Rattle.streams.specs.declared.command.Output.{Output}
 use Rattle.streams.specs.declared.fault.Fault.{Fault}
 use Rattle.world.specs.State.{IsConsistent, State, message_at}
