@@ -1,5 +1,5 @@
-//! Places in etcd: the texts `etcd://HOST:PORT/NAME`, each of which names a gateway and a key there;
-//! and folders of them.
+//! Places in etcd: the texts `etcd://HOST:PORT/NAME`, each of which names a gateway and a key
+//! there; and folders of them.
 #![tactic(auto)]
 
 mod address;

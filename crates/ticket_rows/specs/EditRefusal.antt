@@ -1,7 +1,8 @@
 -- What an edit is refused for, over look-ups: one table, however a ticket is written down.
 use Rattle.std.specs.Prelude.{ℕ, Bool, not, List, [], ◌∷◌, Option, None}
 use Rattle.ticket_rows.specs.Ticket.{is_reserved, unless, first_of}
-use Rattle.ticket_items.specs.Act.{Act, NodeChange, ResourceChange, NodeAddition, act_of, act_target}
+use Rattle.ticket_items.specs.Act.{Act, NodeChange, ResourceChange, NodeAddition, act_of}
+use Rattle.ticket_items.specs.Act.{act_target}
 use Rattle.ticket_items.specs.Act.{Change, NewStatus, Addition, NewNode, NewResource, NewLink}
 use Rattle.ticket_items.specs.declared.edit.Edit.{Edit}
 use Rattle.ticket_items.specs.declared.refusal.Refusal.{Refusal}
