@@ -60,10 +60,11 @@ row_of commands.Abort =
       is_to_worker = true;
     }
 
--- the Type of a command, and what its ID begins with
+-- the Type of a command
 abbrev pub type_of : Command → List ℕ
 type_of c = (row_of c).word
 
+-- what its ID begins with
 abbrev pub mark_of : Command → List ℕ
 mark_of c = (row_of c).mark
 

@@ -41,6 +41,8 @@ pub fn command_given(body: &Body) -> Option<Command>
 /// Whether a message is one for a worker, else for a master: a command goes as its row says, and
 /// the answer to it the other way.
 pub fn is_for_worker(body: &Body) -> bool
+    // Proved: A command is for a worker or for a master as its row says, and the answer to it for
+    // the other.
     ensures { result ≡ words.is_for_worker body.now }
 {
     match body {
@@ -62,7 +64,7 @@ pub fn answer_to(
     response: Result<QueueStatus, u16>,
 ) -> Result<Option<Message>, AllocError>
     // Proved: A command is answered to its sender; an answer isn't, which takes no memory.
-    // By `answer`, `answers`; `spawn_in`, `command_given`, `is_for_worker`.
+    // By `answer`, `answers`; `spawn_in`, `command_given`.
     ensures answer { IfOk result (λ answer. answer
         ≡ replies.answer_to name.now message.now at response) }
     ensures answers { replies.is_answer message.now.body ≡ true → IsOk result }

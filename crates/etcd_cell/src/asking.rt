@@ -17,8 +17,8 @@ use std::alloc::Global;
 use std::io::{Read, Write};
 use streams::Counted;
 
-/// The target of a request for what is under a key.
-const RANGE: &str = "/v3/kv/range";
+/// The target of a request for what is under a key, or for keys.
+pub(crate) const RANGE: &str = "/v3/kv/range";
 
 /// The target of a request that changes it.
 const CHANGE: &str = "/v3/kv/txn";

@@ -8,6 +8,7 @@ ghost use Rattle.etcd_cell.specs.Asking.{listing_asked};
 ghost use Rattle.etcd_cell.specs.Cell.{Learns, LearnsNothing};
 ghost use Rattle.etcd_cell.specs.Exchange.{Hears, IsUnheard};
 
+use crate::asking::RANGE;
 use crate::connector::{Connector, connection_to};
 use crate::exchange::post;
 use crate::gateway::Gateway;
@@ -15,9 +16,6 @@ use etcd_wire::{KeyVersion, NoAnswer, Response, listed_of, listing_request};
 use std::alloc::Global;
 use std::io::{Read, Write};
 use streams::Counted;
-
-/// The target of a request for keys.
-const RANGE: &str = "/v3/kv/range";
 
 /// What a response tells of the keys of a folder.
 fn listed(alloc: Global, response: &Response) -> Result<Vec<KeyVersion>, NoAnswer>

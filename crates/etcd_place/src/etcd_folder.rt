@@ -5,11 +5,7 @@ ghost use Rattle.etcd_place.specs.Place as places;
 
 use crate::address::is_gateway;
 use crate::key_name::is_key_name;
-use etcd_cell::{Gateway, SocketConnector, keys_in};
-use etcd_wire::{KeyVersion, NoAnswer};
 use std::alloc::{AllocError, Global};
-use std::net::Net;
-use std::time::{Clock, Duration};
 
 /// A folder of values in etcd: the gateway of one of its nodes, and what their names begin with
 /// (our own).
@@ -29,7 +25,7 @@ impl<'a> EtcdFolder<'a> {
     /// `/`, if there is one, one to eight names without dots, with `/` between them.
     pub fn of(text: &'a str) -> Option<EtcdFolder<'a>>
         // Proved: A folder in etcd is a text of HOST:PORT, and of no name or one to eight, in
-        // which nothing is decoded; its values are asked of that gateway by the key of that name.
+        // which nothing is decoded; the keys of its values begin with the key of that name.
         // By `EtcdFolder::key`.
         ensures { option_map named_folder result ≡ folders.etcd_folder_in text.now }
     {
@@ -71,35 +67,5 @@ impl<'a> EtcdFolder<'a> {
             key.extend_from_slice(self.name.as_bytes())?;
         }
         Ok(key)
-    }
-
-    /// The keys of the values in it and below it, each with its revision, over a connection that
-    /// takes so long at most. Refuses `Unknown` where no answer comes that tells them, and
-    /// `Memory`.
-    pub fn keys<R: Net + Clock>(
-        &self,
-        rt: &R,
-        alloc: Global,
-        limit: Duration,
-    ) -> Result<Vec<KeyVersion>, NoAnswer> {
-        let key = self.key(alloc)?;
-        match Gateway::of(alloc, self.gateway)? {
-            Some(gateway) => {
-                let connector = SocketConnector::new(rt, limit);
-                keys_in(alloc, &connector, &gateway, key.as_slice())
-            }
-            None => unreachable!(),
-        }
-    }
-
-    /// What stands behind the folder and a `/` in the key of a value, if that is in it or below it.
-    pub fn rest_of<'k>(&self, key: &'k [u8]) -> Option<&'k str> {
-        let text = str::from_utf8(key).ok()?;
-        let rest = text.strip_prefix("toarnbif/")?;
-        if self.name.is_empty() {
-            return Some(rest);
-        }
-        let rest = rest.strip_prefix(self.name)?;
-        rest.strip_prefix("/")
     }
 }

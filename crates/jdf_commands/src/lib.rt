@@ -15,9 +15,7 @@ pub use check_command::run_check;
 pub use edit_command::run_edit;
 pub use explain_command::run_explain;
 pub use file_commands::{
-    ListRequest, OrderOutput, OutputWithNotes, answer_output, begin, call_output, fault_of,
-    finish_noting, journal_message, journal_order, kept_list, kept_shown, moment_of,
-    moment_of_picture, notes_of_order, open_keep, order_in_file, order_noted, refused_by, run_file,
-    step_output, take_in_file, typist, worker_text,
+    OrderOutput, OutputWithNotes, answer_output, begin, call_output, finish_noting, order_in_file,
+    order_noted, refused_by, run_file, step_output, take_in_file, worker_text,
 };
 pub use world_command::{push_line, run_world};

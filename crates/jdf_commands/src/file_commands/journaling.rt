@@ -74,7 +74,7 @@ fn append<J: Journal>(journal: &mut J, line: Result<Vec<u8>, Refusal>)
 
 /// Appends the line of an order's step that was saved, if a journal is wanted and the controller
 /// didn't refuse the order.
-pub fn journal_order<K: Keep, J: Journal>(
+pub(crate) fn journal_order<K: Keep, J: Journal>(
     alloc: Global,
     journal: &mut J,
     opened: &AnyKept<K>,
@@ -99,7 +99,7 @@ pub fn journal_order<K: Keep, J: Journal>(
 }
 
 /// The same of a message's step.
-pub fn journal_message<K: Keep, J: Journal>(
+pub(crate) fn journal_message<K: Keep, J: Journal>(
     alloc: Global,
     journal: &mut J,
     opened: &AnyKept<K>,

@@ -26,11 +26,7 @@ use std::time::Clock;
 use streams::{Fault, Output, Refused};
 
 /// What `list` writes of the controller that a keeper holds.
-pub fn kept_list<K: Keep>(
-    alloc: Global,
-    keep: K,
-    asked: ListRequest,
-) -> Result<OutputWithNotes, Fault>
+fn kept_list<K: Keep>(alloc: Global, keep: K, asked: ListRequest) -> Result<OutputWithNotes, Fault>
     ensures ok { IfOk result (λ noted. listing.ListsOne asked K.is_honest K.held keep
         noted.output.text.items noted.output.refused noted.notes.items) }
     ensures refused { IfErr result (λ fault. IsNotLoaded K.is_honest K.held K.load_fails keep fault

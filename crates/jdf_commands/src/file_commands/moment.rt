@@ -11,7 +11,7 @@ use streams::{Fault, Refused};
 
 /// The moment that is named or, where none is, that of the clock, in seconds since 1970. Refuses
 /// `ReadFailed` where the clock tells none.
-pub fn moment_of<R: Clock>(clock: &R, at: Option<u64>) -> Result<u64, Fault>
+pub(crate) fn moment_of<R: Clock>(clock: &R, at: Option<u64>) -> Result<u64, Fault>
     ensures ok { IfOk result (IsMoment at) }
     ensures refused { IfErr result (λ fault. (at ≡ None) × (fault ≡ Device ReadFailed)) }
 {

@@ -73,7 +73,7 @@ pub(crate) fn notes_of<K: Keep>(alloc: Global, opened: &AnyKept<K>) -> Result<Ve
 }
 
 /// The notes behind an order's reply: of an edit those on what the controller keeps then.
-pub fn notes_of_order<K: Keep>(
+pub(crate) fn notes_of_order<K: Keep>(
     alloc: Global,
     reply: &Result<Reply, Refusal>,
     opened: &AnyKept<K>,

@@ -15,13 +15,7 @@ use streams::Fault;
 
 /// The controller whose state a keeper holds, beside the keeper. What is refused is a fault of the
 /// device.
-pub fn open_keep<K: Keep>(alloc: Global, keep: K) -> Result<AnyKept<K>, Fault>
-    // Proved: What `show`, `list`, an order and a message are made of is the same whatever keeps
-    // the controller: it is loaded of what its keeper holds, or it is told why not; it is shown,
-    // listed and noted as it is then, at the moment that is named, or that of the clock; and a
-    // step's line is appended to the journal.
-    // By `ok`, `refused`; `kept_shown`, `kept_list`, `moment_of`, `moment_of_picture`: `ok`,
-    // `refused`; `notes_of_order`, `journal_order`, `journal_message`, `fault_of`.
+pub(crate) fn open_keep<K: Keep>(alloc: Global, keep: K) -> Result<AnyKept<K>, Fault>
     ensures ok { IfOk result (λ opened. IsLoaded K.is_honest K.held K.place keep (kept_of opened)) }
     ensures refused { IfErr result (IsNotLoaded K.is_honest K.held K.load_fails keep) }
 {

@@ -159,7 +159,7 @@ fn order_locked<R: Locks, J: Journal>(
 }
 
 /// Who types, as a line of a journal tells it, where one is wanted and the system tells it.
-pub fn typist<R: Locks, J: Journal>(rt: &R, alloc: Global, journal: &J) -> Option<String> {
+fn typist<R: Locks, J: Journal>(rt: &R, alloc: Global, journal: &J) -> Option<String> {
     if journal.is_wanted() {
         user_text(rt, alloc)
     } else {

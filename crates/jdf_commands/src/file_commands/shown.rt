@@ -127,7 +127,7 @@ fn text_shown<K: Keep>(
 
 /// What `show` writes of the controller that a keeper holds, which is what that shows or its
 /// picture, and what it notes of it.
-pub fn kept_shown<K: Keep>(
+fn kept_shown<K: Keep>(
     alloc: Global,
     keep: K,
     picture: bool,
@@ -167,7 +167,7 @@ fn file_shown<R: Locks>(
 
 /// The moment of a picture: the one that is named, or that of the clock. Where none is wanted the
 /// clock isn't looked at.
-pub fn moment_of_picture<R: Clock>(clock: &R, picture: bool, at: Option<u64>) -> Result<u64, Fault>
+fn moment_of_picture<R: Clock>(clock: &R, picture: bool, at: Option<u64>) -> Result<u64, Fault>
     ensures ok { IfOk result (IsMoment at) }
     ensures refused { IfErr result (λ fault. (at ≡ None) × (fault ≡ Device ReadFailed)) }
 {

@@ -83,7 +83,7 @@ pub(crate) fn output_unrefused(text: Vec<u8>) -> Output
 }
 
 /// The fault that a refusal of a step is.
-pub fn fault_of(refused: Refused) -> Fault
+pub(crate) fn fault_of(refused: Refused) -> Fault
     ensures { result ≡ steps.fault_of refused }
 {
     match refused {
