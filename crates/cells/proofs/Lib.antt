@@ -2,4 +2,4 @@ mod Acting
 mod Chained
 mod Following
 mod Growing
-mod Keeping
+pub mod Keeping

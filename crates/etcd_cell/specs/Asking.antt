@@ -1,7 +1,7 @@
 -- What is asked of etcd's gateway, as a whole request.
 use Rattle.std.specs.Prelude.{ℕ, List, codes}
 use Rattle.http_message.specs.Texts.{request_to}
-use Rattle.etcd_wire.specs.Request.{listing, range, swap, text_of, touch}
+use Rattle.etcd_wire.specs.Request.{compaction, listing, range, swap, text_of, touch}
 
 -- ---- by the gateway and the key
 
@@ -19,3 +19,9 @@ swap_asked gateway key revision bytes =
 abbrev pub touch_asked : List ℕ → List ℕ → ℕ → List ℕ
 touch_asked gateway key revision =
     request_to gateway (codes "/v3/kv/txn") (text_of (touch key revision))
+
+-- ---- by the gateway alone
+
+abbrev pub compaction_asked : List ℕ → ℕ → List ℕ
+compaction_asked gateway revision =
+    request_to gateway (codes "/v3/kv/compaction") (text_of (compaction revision))

@@ -5,6 +5,7 @@
 // behind a socket, and that etcd compares and swaps, one call at a time, is a premise.
 
 mod asking;
+mod compacting;
 mod connector;
 mod etcd_cell;
 mod exchange;
@@ -12,6 +13,7 @@ mod gateway;
 mod listing;
 
 pub use asking::{read_over, swap_over, touch_over};
+pub use compacting::compact;
 pub use connector::{Connector, SocketConnector};
 pub use etcd_cell::{EtcdCell, MAX_VALUE_BYTES};
 pub use gateway::Gateway;

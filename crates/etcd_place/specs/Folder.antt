@@ -1,6 +1,6 @@
 -- A folder of values in etcd, as a text.
-use Rattle.std.specs.Prelude.{ℕ, List, [], ◌∷◌, ◌++◌, codes, drop, Option, Some, None}
-use Rattle.std.specs.Prelude.{if◌then◌else◌}
+use Rattle.std.specs.Prelude.{◌≡◌, ℕ, List, [], ◌∷◌, ◌++◌, codes, drop, Option, Some, None}
+use Rattle.std.specs.Prelude.{if◌then◌else◌, IsUtf8}
 use Rattle.etcd_place.specs.Place.{Named, front_of, has_slash, is_etcd, is_gateway, key_of}
 use Rattle.etcd_place.specs.Place.{place_of, rest_of}
 
@@ -22,3 +22,8 @@ etcd_folder_in text =
 abbrev pub folder_key : List ℕ → List ℕ
 folder_key [] = codes "toarnbif"
 folder_key (c ∷ name) = key_of (c ∷ name)
+
+-- a key is that of a value in it or below it: it is UTF-8, and this is what stands behind the
+-- folder's key and a `/`
+abbrev pub IsBelow : (name key rest : List ℕ) → Type 0
+IsBelow name key rest = IsUtf8 key × (key ≡ folder_key name ++ codes "/" ++ rest)

@@ -84,3 +84,7 @@ swap key revision bytes =
 abbrev pub touch : List ℕ → ℕ → Json
 touch key revision =
     transaction (encoded key) (decimal revision) (touched (encoded key) revision)
+
+-- what stood under any key before this revision is forgotten
+abbrev pub compaction : ℕ → Json
+compaction revision = single (codes "revision") (string (decimal revision))

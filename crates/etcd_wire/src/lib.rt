@@ -19,5 +19,7 @@ pub use found::held_of;
 pub use key_version::KeyVersion;
 pub use listed::listed_of;
 pub use no_answer::NoAnswer;
-pub use request::{listing_request, range_request, swap_request, touch_request};
+pub use request::{
+    compaction_request, listing_request, range_request, swap_request, touch_request,
+};
 pub use response::{Response, response_in};

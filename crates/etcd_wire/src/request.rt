@@ -1,7 +1,7 @@
 //! The bodies of requests.
 
-ghost use Rattle.std.specs.Prelude.{◌≡◌, ◌≤◌, ◌∷◌, ◌++◌, [], Some, IfOk};
-ghost use Rattle.json.specs.Json.{document};
+ghost use Rattle.std.specs.Prelude.{◌≡◌, ◌≤◌, ◌∷◌, ◌++◌, [], Some, IfOk, codes};
+ghost use Rattle.json.specs.Json.{document, string};
 ghost use Rattle.json.specs.Tree.{HasNumbers, depth};
 ghost use Rattle.json.specs.Value.{value_view};
 ghost use Rattle.etcd_wire.specs.Request as form;
@@ -19,7 +19,8 @@ pub fn range_request(alloc: Global, key: &[u8]) -> Result<Vec<u8>, AllocError>
     // read again as that. Of a swap and a touch that has one comparison, of the revision under the
     // key with the one that is given, one put under that key where it holds, and a look under it
     // where it doesn't. A touch puts what is there again, and of revision 0 no bytes.
-    // By `text`, `again`; `listing_request`, `swap_request`, `touch_request`: `text`, `again`.
+    // By `text`, `again`; `listing_request`, `swap_request`, `touch_request`,
+    // `compaction_request`: `text`, `again`.
     ensures text { IfOk result (λ body. body.items ≡ text_of (form.range key.now)) }
     ensures again { IfOk result (λ body. document body.items ≡ Some (form.range key.now)) }
 {
@@ -105,6 +106,37 @@ pub fn touch_request(alloc: Global, key: &[u8], revision: u64) -> Result<Vec<u8>
     let key = STANDARD.encode(alloc, key)?;
     let mut buffer = Buffer::new();
     touch_body(alloc, key.as_str(), buffer.format(revision), revision)
+}
+
+/// The body that asks the engine to forget what stood under any key before a revision.
+pub fn compaction_request(alloc: Global, revision: u64) -> Result<Vec<u8>, AllocError>
+    ensures text { IfOk result (λ body. body.items ≡ text_of (form.compaction revision)) }
+    ensures again { IfOk result (λ body.
+        document body.items ≡ Some (form.compaction revision)) }
+{
+    let mut buffer = Buffer::new();
+    compaction_body(alloc, buffer.format(revision))
+}
+
+/// The body of it, by the text of the revision.
+fn compaction_body<'a>(alloc: Global, revision: &'a str) -> Result<Vec<u8>, AllocError>
+    ensures text { IfOk result (λ body. body.items
+        ≡ text_of (form.single (codes "revision") (string revision.now))) }
+    ensures again { IfOk result (λ body. document body.items
+        ≡ Some (form.single (codes "revision") (string revision.now))) }
+{
+    let body = compaction(alloc, revision)?;
+    to_vec(alloc, &body)
+}
+
+/// A revision, as an object.
+fn compaction<'a>(alloc: Global, revision: &'a str) -> Result<Value<'a>, AllocError>
+    ensures value { IfOk result (λ v.
+        value_view v ≡ form.single (codes "revision") (string revision.now)) }
+    ensures numbers { IfOk result (λ v. HasNumbers (value_view v)) }
+    ensures depth { IfOk result (λ v. depth (value_view v) ≤ 2) }
+{
+    single(alloc, "revision", Value::String(revision))
 }
 
 /// The body of a swap, by the texts of what it names.

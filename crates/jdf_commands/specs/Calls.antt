@@ -1,6 +1,5 @@
 -- How a call ends. Nothing is known of what stands in files, so that of a file no keeper is honest.
-use Rattle.std.specs.Prelude.{◌≡◌, ◌⊎◌, ℕ, Bool, false, List, [], Option, None, option_map}
-use Rattle.ticket_items.specs.declared.refusal.Refusal.{Refusal}
+use Rattle.std.specs.Prelude.{◌≡◌, ◌⊎◌, ℕ, Bool, false, List, [], option_map}
 use Rattle.jmf_message.specs.Decoded.{IsRefusalOf}
 use Rattle.jdf_words.specs.declared.call.Call.{Call}
 use Rattle.jdf_words.specs.declared.call.Call.TheVariants.{Edit, World, New, Order, Take, Show}
@@ -8,49 +7,28 @@ use Rattle.jdf_words.specs.declared.call.Call.TheVariants.{Check, Explain, Listi
 use Rattle.jdf_words.specs.declared.call.Call.TheVariants.{SendOrder, Serve, Send}
 use Rattle.keepers.specs.InFile.{InFile}
 use Rattle.keepers.specs.OnDisk.{OnDisk}
+use Rattle.keepers.specs.SystemFile.{file_bytes, is_honest, keep_in_file, keep_in_new_file, place}
+use Rattle.keepers.specs.SystemFile.{save_fails}
+use Rattle.stored_state.specs.AnyStep.{IsHanded, IsNoOrder, IsOrdered}
 use Rattle.stored_state.specs.Held.{KeptState}
 use Rattle.stored_state.specs.declared.addressee.Addressee.{Addressee}
 use Rattle.stored_state.specs.declared.any_controller.AnyController.{AnyController}
-use Rattle.streams.specs.Ends.{GivesUp, IsFaultOf, IsOutputOf, IsUnread}
-use Rattle.streams.specs.Streams.{IsInput, IsUntouched, Traffic}
-use Rattle.streams.specs.declared.refused.Refused.TheVariants.{Core, LoadFailed, NoConnection}
-use Rattle.streams.specs.declared.refused.Refused.TheVariants.{ReadFailed}
+use Rattle.streams.specs.Ends.{GivesUp, IsFaultOf, IsOutputOf}
+use Rattle.streams.specs.Streams.{IsUntouched, Traffic}
+use Rattle.streams.specs.declared.refused.Refused.TheVariants.{NoConnection}
 use Rattle.streams.specs.declared.fault.Fault.{Fault}
-use Rattle.streams.specs.declared.fault.Fault.TheVariants.{Device, Input}
-use Rattle.ticket_items.specs.declared.refusal.Refusal.TheVariants.{Memory}
-use Rattle.jdf_commands.specs.Caused.{GivesUpCaused}
-use Rattle.jdf_commands.specs.CheckCommand.Run.{EndsCheck}
-use Rattle.jdf_commands.specs.ExplainCommand.{EndsExplain}
-use Rattle.jdf_commands.specs.EditCommand.Document as edit_document
-use Rattle.jdf_commands.specs.EditCommand.Run as edit_run
-use Rattle.jdf_commands.specs.WorldCommand.Run as world_run
+use Rattle.streams.specs.declared.fault.Fault.TheVariants.{Device}
 use Rattle.world_script.specs.Script as world_script
-use Rattle.stored_state.specs.AnyStep.{IsHanded, IsNoOrder, IsOrdered}
-use Rattle.jdf_commands.specs.FileCommands.Commands.{Begins, BeginsNone, DoesNoStep, DoesStep}
-use Rattle.jdf_commands.specs.FileCommands.Commands.{IsMoment, Shows, Steps}
-use Rattle.jdf_commands.specs.FileCommands.Notes.{GivesOutNoting, no_notes, notes_of_order}
-use Rattle.jdf_commands.specs.FileCommands.Listing.{ListsAt}
-pub use Rattle.jdf_commands.specs.Files.{count, file_bytes, is_honest, keep_in_file}
-pub use Rattle.jdf_commands.specs.Files.{keep_in_new_file, place}
-pub use Rattle.jdf_commands.specs.Files.{load_fails, save_fails, IsNotOpened}
-
--- why nothing is given out of the step that the bytes are, of the controller in a file: that can't
--- be locked, or it does none
-abbrev pub DoesNoneOf : (List ℕ → AnyController → Refusal → Type 0) → Steps → List ℕ → List ℕ
-    → Fault → Type 0
-DoesNoneOf Refuses IsStep file bytes fault =
-    (fault ≡ Device LoadFailed)
-    ⊎ DoesNoStep is_honest file_bytes place count load_fails save_fails Refuses IsStep bytes
-    (keep_in_file file) fault
-
--- the same of the input: there is no controller in the file, and nothing is read; or the input
--- isn't read; or it is, and nothing is given out
-abbrev pub DoesNone : (List ℕ → AnyController → Refusal → Type 0) → Steps → List ℕ → Traffic → Fault
-    → Type 0
-DoesNone Refuses IsStep file input fault =
-    (IsUntouched input × IsNotOpened file fault)
-    ⊎ (IsUnread input fault
-    ⊎ ((bytes : List ℕ) × IsInput input bytes × DoesNoneOf Refuses IsStep file bytes fault))
+use Rattle.document_commands.specs.Caused.{GivesUpCaused}
+use Rattle.document_commands.specs.CheckCommand.Run.{EndsCheck}
+use Rattle.document_commands.specs.ExplainCommand.{EndsExplain}
+use Rattle.document_commands.specs.EditCommand.Document as edit_document
+use Rattle.document_commands.specs.EditCommand.Run as edit_run
+use Rattle.file_commands.specs.Calls.{DoesNone, IsNotSeen}
+use Rattle.file_commands.specs.Commands.{Begins, BeginsNone, DoesStep, IsMoment, Shows}
+use Rattle.file_commands.specs.Listing.{ListsAt}
+use Rattle.file_commands.specs.Notes.{GivesOutNoting, no_notes, notes_of_order}
+use Rattle.jdf_commands.specs.WorldCommand.Run as world_run
 
 -- what a call writes, whether something that was asked for was refused, and what is noted
 abbrev pub IsOutputOfCall : Call → Traffic → List ℕ → Bool → List ℕ → Type 0
@@ -80,14 +58,6 @@ IsOutputOfCall Loop input text refused notes = ⊥
 IsOutputOfCall (SendOrder file at url) input text refused notes = ⊥
 IsOutputOfCall (Serve file listen limits requests peers field) input text refused notes = ⊥
 IsOutputOfCall (Send url file) input text refused notes = ⊥
-
--- why nothing is told of a file: there is no controller at hand of it, or memory ran out
-abbrev pub IsNotListed : List ℕ → Fault → Type 0
-IsNotListed file fault = IsNotOpened file fault ⊎ (fault ≡ Input (Core Memory))
-
--- the same, or no moment is named and the clock tells none
-abbrev pub IsNotSeen : List ℕ → Option ℕ → Fault → Type 0
-IsNotSeen file at fault = IsNotListed file fault ⊎ ((at ≡ None) × (fault ≡ Device ReadFailed))
 
 -- a call over the network isn't run over files alone, and nothing is read; nor are `check` and
 -- `explain`, which end in their own ways

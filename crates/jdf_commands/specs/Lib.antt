@@ -1,9 +1,2 @@
-pub mod EditCommand
 pub mod WorldCommand
-pub mod FileCommands
-pub mod Files
 pub mod Calls
-pub mod CheckCommand
-pub mod ExplainCommand
-pub mod Told
-pub mod Caused

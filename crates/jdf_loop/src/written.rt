@@ -2,7 +2,7 @@
 
 ghost use Rattle.std.specs.Prelude.{◌≡◌, ◌++◌, IfErr, IfOk, OnOk};
 ghost use Rattle.jdf_loop.specs.EventLine as event_line;
-ghost use Rattle.jdf_commands.specs.FileCommands.Shown.{master_text};
+ghost use Rattle.controller_form.specs.ShownMaster.{master_text};
 ghost use Rattle.ticket_items.specs.declared.refusal.Refusal.TheVariants.{Memory};
 
 use crate::event_line::EventLine;

@@ -1,2 +1,3 @@
 mod AnyCalls
+mod ServedPlaces
 mod WordsAnswered

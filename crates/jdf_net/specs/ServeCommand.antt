@@ -1,7 +1,28 @@
 -- How `serve` ends.
-use Rattle.std.specs.Prelude.{◌≡◌, ◌⊎◌, ℕ}
+use Rattle.std.specs.Prelude.{◌≡◌, ◌⊎◌, ◌++◌, ℕ, List, None, true, codes}
+use Rattle.etcd_place.specs.Folder.{etcd_folder_in}
+use Rattle.etcd_place.specs.Place.{etcd_place_in, is_etcd}
+use Rattle.shop_folder.specs.declared.place.Place.{Place}
+use Rattle.shop_folder.specs.declared.place.Place.TheVariants.{File, Folder}
 use Rattle.streams.specs.Fault.{fault_status}
 use Rattle.streams.specs.declared.fault.Fault.{Fault}
+
+-- ---- what is served
+
+-- what a text that begins with `etcd://` names: with a `/` at its end the folder before that, if
+-- this begins so too, else one controller
+abbrev pub IsOfText : List ℕ → Place → Type 0
+IsOfText text (Folder folder) = (text ≡ folder.now ++ codes "/") × (is_etcd folder.now ≡ true)
+IsOfText text (File one) =
+    (one.now ≡ text)
+    × ((folder : List ℕ) → text ≡ folder ++ codes "/" → is_etcd folder ≡ true → ⊥)
+
+-- it is to be in etcd, and is no place, or no folder, there
+abbrev pub IsNowhere : Place → Type 0
+IsNowhere (File path) = (is_etcd path.now ≡ true) × (etcd_place_in path.now ≡ None)
+IsNowhere (Folder path) = (is_etcd path.now ≡ true) × (etcd_folder_in path.now ≡ None)
+
+-- ---- how it ends
 
 -- why it doesn't serve: memory ran out, or what it stands on failed or holds no controller
 abbrev pub IsUnserved : Fault → Type 0

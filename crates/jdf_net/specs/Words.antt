@@ -1,6 +1,7 @@
 -- How the words of the command line end.
 use Rattle.std.specs.Prelude.{◌≡◌, ◌≢◌, ◌⊎◌, ℕ, Bool, List, [], map, String, string_bytes}
-use Rattle.std.specs.Prelude.{Option, Some, None, option_map, false, true}
+use Rattle.std.specs.Prelude.{Option, Some, None, is_some, option_map, false, true}
+use Rattle.std.specs.Borrow.{Bor}
 use Rattle.std.specs.declared.alloc.Global.{Global}
 use Rattle.clap.specs.Words.{IsAmong, fault_of, subcommand_of, takes}
 use Rattle.clap.specs.declared.error.kind.ErrorKind.{ErrorKind}
@@ -12,10 +13,13 @@ use Rattle.streams.specs.Streams.{IsUntouched, Stream, Traffic}
 use Rattle.jdf_words.specs.Calls.{IsEdit, IsInvocation, is_asked}
 use Rattle.jdf_words.specs.Commands.{jdf}
 use Rattle.jdf_words.specs.declared.call.Call.{Call}
-use Rattle.jdf_words.specs.declared.call.Call.TheVariants.{Loop, Send, SendOrder, Serve}
+use Rattle.jdf_words.specs.declared.call.Call.TheVariants.{Loop, New, Order, Take, Show, Listing}
+use Rattle.jdf_words.specs.declared.call.Call.TheVariants.{Send, SendOrder, Serve}
 use Rattle.jdf_words.specs.declared.invocation.Invocation.{Invocation}
+use Rattle.cell_commands.specs.Calls.{EndsInCell}
+use Rattle.etcd_place.specs.Place.{etcd_place_in, is_etcd}
 use Rattle.jdf_commands.specs.Calls.{EndsCall}
-use Rattle.jdf_commands.specs.Caused.{GivesUpCaused}
+use Rattle.document_commands.specs.Caused.{GivesUpCaused}
 use Rattle.jdf_loop.specs.Run.{EndsLoop}
 use Rattle.jdf_send.specs.InputFile.{file_of}
 use Rattle.jdf_send.specs.OrderCommand.{EndsSendOrder}
@@ -23,14 +27,52 @@ use Rattle.jdf_send.specs.SendCommand.{EndsSend}
 use Rattle.jdf_net.specs.ServeCommand.{EndsServe}
 use Rattle.jdf_net.specs.declared.words.TheConstants.{NO_CALL}
 
--- how a call ends, over the network or over files
+-- ---- FILE of a call
+
+-- the text of FILE, and none where there is none
+abbrev pub file_text : Call → List ℕ
+file_text (New file) = file.now
+file_text (Order file at) = file.now
+file_text (SendOrder file at url) = file.now
+file_text (Take file at) = file.now
+file_text (Show file picture at) = file.now
+file_text (Listing file at is_open is_json) = file.now
+file_text call = []
+
+-- it is to be a place in etcd, and is none: nothing is read or written, and there is no call
+abbrev pub EndsNowhere : Traffic → Traffic → ℕ → Type 0
+EndsNowhere input output status = IsUntouched input × IsUntouched output × (status ≡ NO_CALL)
+
+-- a call on a controller ends as in its cell, where FILE is a place in etcd
+abbrev pub EndsInEtcd : Bool → Call → Traffic → Traffic → Traffic → ℕ → Type 0
+EndsInEtcd true call input output told status = EndsInCell call input output told status
+EndsInEtcd false call input output told status = EndsNowhere input output status
+
+-- how a call that isn't over the network ends: in etcd where FILE begins with `etcd://`, else over
+-- files
+abbrev pub EndsLocal : Bool → Call → Traffic → Traffic → Traffic → ℕ → Type 0
+EndsLocal true call input output told status =
+    EndsInEtcd (is_some (etcd_place_in (file_text call))) call input output told status
+EndsLocal false call input output told status = EndsCall call input output told status
+
+-- and an order whose message is sent: of a controller in etcd that isn't done
+abbrev pub EndsSending : Bool → Bor (List ℕ) → ℕ → List ℕ → Traffic → Traffic → Traffic → ℕ
+    → Type 0
+EndsSending true file at url input output told status = EndsNowhere input output status
+EndsSending false file at url input output told status =
+    EndsSendOrder file at url input output told status
+
+-- ---- calls
+
+-- how a call ends, over the network or not
 abbrev pub EndsAnyCall : Call → Traffic → Traffic → Traffic → ℕ → Type 0
 EndsAnyCall Loop input output told status = EndsLoop input output told status
 EndsAnyCall (SendOrder file at url) input output told status =
-    EndsSendOrder file at url.now input output told status
+    EndsSending (is_etcd file.now) file at url.now input output told status
 EndsAnyCall (Serve file listen limits requests peers field) input output told status = EndsServe status
 EndsAnyCall (Send url file) input output told status = EndsSend input output told status
-EndsAnyCall call input output told status = EndsCall call input output told status
+EndsAnyCall call input output told status =
+    EndsLocal (is_etcd (file_text call)) call input output told status
 
 -- a call ends so, and behind all that it tells something may be told
 abbrev pub EndsTelling : Call → Traffic → Traffic → Traffic → ℕ → Type 0

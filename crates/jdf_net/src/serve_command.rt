@@ -1,14 +1,20 @@
 //! The command `serve`: the controller that is kept in a file, or those of a folder, over HTTP.
 
-ghost use Rattle.std.specs.Prelude.{◌≡◌, ◌⊎◌, IfErr};
-ghost use Rattle.jdf_net.specs.ServeCommand.{EndsServe, IsUnserved};
-ghost use Rattle.streams.specs.declared.refused.Refused.TheVariants.{NoConnection, WriteFailed};
+ghost use Rattle.std.specs.Prelude.{◌≡◌, ◌⊎◌, Err, IfErr, false, true};
+ghost use Rattle.etcd_place.specs.Place.{is_etcd as is_etcd_text};
+ghost use Rattle.jdf_net.specs.ServeCommand.{EndsServe, IsNowhere, IsOfText, IsUnserved};
+ghost use Rattle.shop_folder.specs.Place.{path_of};
+ghost use Rattle.streams.specs.declared.refused.Refused.TheVariants.{LoadFailed, NoConnection};
+ghost use Rattle.streams.specs.declared.refused.Refused.TheVariants.{WriteFailed};
 
-use jdf_commands::{CausedFault, give_up_caused};
-use jdf_server::{Post, Server, Service, check_file};
+use document_commands::{CausedFault, give_up_caused};
+use etcd_place::{EtcdFolder, EtcdPlace, is_etcd};
+use jdf_server::{Server, Service};
 use keepers::Locks;
 use mio::net::TcpListener;
 use peers_file::NO_PEERS;
+use server_post::Post;
+use server_steps::check_path;
 use shop_folder::{Lies, PEERS, Place, in_folder};
 use std::alloc::{Alloc, AllocError, Global};
 use std::io::{self, ErrorKind, Write};
@@ -69,12 +75,75 @@ fn listen_fault(alloc: Global, address: &str, error: &io::Error) -> CausedFault
     }
 }
 
-/// Whether a controller can be loaded of a file that is served. Of a folder nothing is read, so
-/// that many files cost nothing. Refuses as `check_file`.
-fn check<R: Locks>(rt: &R, alloc: Global, place: &Place<'_>) -> Result<(), Refused> {
+/// What is served of etcd: the value of a place, or those of a folder, with a `/` behind it.
+fn place_in_etcd<'a>(text: &'a str) -> Place<'a>
+    ensures { IsOfText text.now result }
+{
+    match text.strip_suffix("/") {
+        Some(folder) => {
+            if is_etcd(folder) {
+                return Place::Folder(folder);
+            }
+            Place::File(text)
+        }
+        None => Place::File(text),
+    }
+}
+
+/// What is served: what lies at a path, or in etcd, which isn't looked for among files.
+fn place_of<'a, R: Files>(rt: &R, path: &'a str) -> Place<'a>
+    // Proved: What begins with `etcd://` isn't looked for among files: with a `/` at its end it is
+    // the folder before that, else one controller.
+    // By `etcd`.
+    ensures file { is_etcd_text path.now ≡ false → path_of result ≡ path.now }
+    ensures etcd { is_etcd_text path.now ≡ true → IsOfText path.now result }
+{
+    if is_etcd(path) {
+        return place_in_etcd(path);
+    }
+    Place::at(rt, path)
+}
+
+/// What is known where nothing could be loaded of what is to be a place in etcd.
+fn etcd_words(path: &str) -> &'static str {
+    match EtcdPlace::of(path) {
+        Some(_) => "nothing is kept there, or its node doesn't answer",
+        None => "a place in etcd is etcd://HOST:PORT/NAME, and a folder etcd://HOST:PORT/",
+    }
+}
+
+/// Why no controller could be loaded of a path: what the system says of its file, or what is known
+/// of a place in etcd.
+fn unloaded<R: Files>(rt: &R, alloc: Global, refused: Refused, path: &str) -> CausedFault
+    ensures { result.fault ≡ Fault.Device refused }
+{
+    let fault = Fault::Device(refused);
+    if !is_etcd(path) {
+        return CausedFault::at_path(rt, alloc, fault, path, "");
+    }
+    let words = etcd_words(path);
+    match format!(in alloc; "{path}: {words}") {
+        Ok(name) => CausedFault::at(alloc, fault, name.as_str()),
+        Err(_) => CausedFault::without_cause(fault),
+    }
+}
+
+/// Whether a controller can be loaded of a file that is served, or of a key. Of a folder nothing is
+/// read, so that many files cost nothing. Refuses as `check_path`.
+fn check<R: Locks + Net + Clock>(rt: &R, alloc: Global, place: &Place<'_>) -> Result<(), Refused>
+    ensures { IsNowhere place.now → result ≡ Err LoadFailed }
+{
     match place {
-        Place::File(file) => check_file(rt, alloc, file),
-        Place::Folder(_) => Ok(()),
+        Place::File(path) => check_path(rt, alloc, path),
+        Place::Folder(path) => {
+            if !is_etcd(path) {
+                return Ok(());
+            }
+            match EtcdFolder::of(path) {
+                Some(_) => Ok(()),
+                None => Err(Refused::LoadFailed),
+            }
+        }
     }
 }
 
@@ -92,6 +161,9 @@ fn peers_path<R: Files>(
     match place {
         Place::File(_) => Ok(None),
         Place::Folder(folder) => {
+            if is_etcd(folder) {
+                return Ok(None);
+            }
             let path = in_folder(alloc, folder, PEERS)?;
             match Lies::at(rt, path.as_str()) {
                 Lies::File => Ok(Some(path)),
@@ -227,10 +299,9 @@ fn serve<R: Locks + Net + Clock + Alloc + Clone + Drop, W: Write, F: Write>(
 ) -> Result<(), CausedFault>
     ensures { IfErr result (λ caused. IsUnserved caused.fault) }
 {
-    let place = Place::at(rt, service.path);
+    let place = place_of(rt, service.path);
     if let Err(refused) = check(rt, alloc, &place) {
-        let fault = Fault::Device(refused);
-        return Err(CausedFault::at_path(rt, alloc, fault, service.path, ""));
+        return Err(unloaded(rt, alloc, refused, service.path));
     }
     let listener = match listen(rt, service.listen) {
         Ok(listener) => listener,

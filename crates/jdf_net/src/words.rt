@@ -9,11 +9,16 @@ ghost use Rattle.jdf_words.specs.Calls as calls;
 ghost use Rattle.jdf_send.specs.InputFile.{file_of as file_in};
 ghost use Rattle.jdf_net.specs.Words.{EndsAnswer, EndsAnyCall, EndsFrom};
 ghost use Rattle.jdf_net.specs.Words.{EndsFromFile, EndsJournaled};
-ghost use Rattle.jdf_net.specs.Words.{EndsWithJournal, EndsWords};
+ghost use Rattle.jdf_net.specs.Words.{EndsLocal, EndsWithJournal, EndsWords};
+ghost use Rattle.jdf_net.specs.Words as net;
+ghost use Rattle.etcd_place.specs.Place.{is_etcd as is_etcd_text};
 ghost use Rattle.streams.specs.Streams.{traffic};
 
 use crate::serve_command::run_serve;
-use jdf_commands::{CausedFault, give_up_caused, run_file};
+use cell_commands::{refuse_place, run_in_cell};
+use document_commands::{CausedFault, give_up_caused};
+use etcd_place::{EtcdPlace, is_etcd};
+use jdf_commands::run_file;
 use jdf_loop::run_loop;
 use jdf_send::{SendOrder, file_of, open_input, run_send, run_send_order};
 use jdf_server::Service;
@@ -70,6 +75,59 @@ fn answer_words<W: Write, F: Write>(
     }
 }
 
+/// FILE of a call on a controller, and no text where it has none.
+fn file_text<'a>(call: &Call<'a>) -> &'a str
+    ensures { result.now ≡ net.file_text call.now }
+{
+    match call {
+        Call::New { file } => file,
+        Call::Order { file, .. } => file,
+        Call::SendOrder { file, .. } => file,
+        Call::Take { file, .. } => file,
+        Call::Show { file, .. } => file,
+        Call::Listing { file, .. } => file,
+        _ => "",
+    }
+}
+
+/// Runs a call that isn't over the network: where FILE begins with `etcd://`, on the controller
+/// that etcd keeps there, and where it names no place, none.
+fn run_local<R: Locks + Net + Clock + Alloc + Clone + Drop, I: Read, W: Write, F: Write>(
+    rt: &R,
+    alloc: Global,
+    call: &Call<'_>,
+    reader: &mut Counted<I>,
+    writer: &mut Counted<W>,
+    faults: &mut Counted<F>,
+    journal: &mut FileJournal<'_, R>,
+) -> u8
+    ensures { EndsLocal (is_etcd_text (net.file_text call.now)) call.now
+        (traffic I.remaining reader.old reader.new)
+        (traffic W.contents writer.old writer.new)
+        (traffic F.contents faults.old faults.new) result }
+{
+    let file = file_text(call);
+    if !is_etcd(file) {
+        return run_file(rt, alloc, call, reader, writer, faults, journal);
+    }
+    match EtcdPlace::of(file) {
+        Some(place) => run_in_cell(rt, alloc, place, call, reader, writer, faults, journal),
+        None => refuse_place(file, faults),
+    }
+}
+
+/// Tells that the message of an order to a controller in etcd isn't sent by `order` itself, as far
+/// as `faults` takes it. Answers `NO_CALL`.
+fn refuse_sending<F: Write>(file: &str, faults: &mut Counted<F>) -> u8
+    ensures { result ≡ NO_CALL }
+{
+    let _ = writeln!(
+        faults,
+        "error: invalid value '{file}' for 'FILE': `--send` wants a file"
+    );
+    NO_CALL
+}
+
 /// Runs a call, over the network or over files; `serve` with the journal and the page that are
 /// named beside it.
 fn run_call<R: Locks + Net + Clock + Alloc + Clone + Drop, I: Read, W: Write, F: Write>(
@@ -88,6 +146,9 @@ fn run_call<R: Locks + Net + Clock + Alloc + Clone + Drop, I: Read, W: Write, F:
     match &asked.call {
         Call::Loop => run_loop(rt, alloc, reader, writer, faults),
         Call::SendOrder { file, at, url } => {
+            if is_etcd(file) {
+                return refuse_sending(file, faults);
+            }
             let order = SendOrder { file, at: *at, url };
             run_send_order(rt, alloc, &order, reader, writer, faults, journal)
         }
@@ -113,7 +174,7 @@ fn run_call<R: Locks + Net + Clock + Alloc + Clone + Drop, I: Read, W: Write, F:
             run_serve(rt, alloc, &service, writer, faults)
         }
         Call::Send { url, file } => run_send(rt, alloc, url, *file, reader, writer, faults),
-        _ => run_file(rt, alloc, &asked.call, reader, writer, faults, journal),
+        _ => run_local(rt, alloc, &asked.call, reader, writer, faults, journal),
     }
 }
 

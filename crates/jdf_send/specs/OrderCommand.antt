@@ -21,12 +21,13 @@ use Rattle.jdf_send.specs.SendCommand.{IsNoPlace}
 use Rattle.jdf_send.specs.declared.order_command.run.OrderResult.{OrderResult}
 use Rattle.jdf_send.specs.declared.order_command.run.OrderResult.TheVariants.{Answered, NoPeer}
 use Rattle.jdf_send.specs.declared.order_command.run.OrderResult.TheVariants.{Refused}
-use Rattle.jdf_commands.specs.Calls.{DoesNone, file_bytes, is_honest, keep_in_file, place}
-use Rattle.jdf_commands.specs.Caused.{EndsWithCaused, GivesUpCaused}
-use Rattle.jdf_commands.specs.FileCommands.Answers.{IsOfAnswer}
-use Rattle.jdf_commands.specs.FileCommands.Commands.{GivesHeld, GivesNoting, GivesStepOf}
-use Rattle.jdf_commands.specs.FileCommands.Notes.{GivesOutNoting, notes_of_order}
-use Rattle.jdf_commands.specs.FileCommands.Step.{is_refused, reply_line, step_lines}
+use Rattle.file_commands.specs.Calls.{DoesNone}
+use Rattle.keepers.specs.SystemFile.{file_bytes, is_honest, keep_in_file, place}
+use Rattle.document_commands.specs.Caused.{EndsWithCaused, GivesUpCaused}
+use Rattle.file_commands.specs.Answers.{IsOfAnswer}
+use Rattle.file_commands.specs.Commands.{GivesHeld, GivesNoting, GivesStepOf}
+use Rattle.file_commands.specs.Notes.{GivesOutNoting, notes_of_order}
+use Rattle.file_commands.specs.Step.{is_refused, reply_line, step_lines}
 
 -- an end: what was written and told until then, and the exit status
 abbrev pub Ending : Type 1

@@ -20,9 +20,10 @@ use Rattle.peers_file.specs.Table.{IsUrlOf}
 use Rattle.peers_file.specs.PeersInFile.{IsNoTable}
 use Rattle.jdf_send.specs.declared.send_command.send_to.SendTo.{SendTo}
 use Rattle.jdf_send.specs.declared.send_command.send_to.SendTo.TheVariants.{Peers, Url}
-use Rattle.jdf_commands.specs.Caused.{GivesUpCaused}
-use Rattle.jdf_commands.specs.FileCommands.Answers.{IsRefusedBy, refusal_told}
-use Rattle.jdf_commands.specs.FileCommands.Notes.{TellsNotes}
+use Rattle.document_commands.specs.Caused.{GivesUpCaused}
+use Rattle.jmf_message.specs.Refused.{refusal_told}
+use Rattle.file_commands.specs.Answers.{IsRefusedBy}
+use Rattle.file_commands.specs.Notes.{TellsNotes}
 
 -- ---- where messages go
 

@@ -6,7 +6,7 @@ ghost use Rattle.streams.specs.declared.refused.Refused.TheVariants.{ReadFailed}
 ghost use Rattle.streams.specs.declared.fault.Fault.TheVariants.{Device};
 ghost use Rattle.jdf_send.specs.InputFile as input_file;
 
-use jdf_commands::CausedFault;
+use document_commands::CausedFault;
 use std::alloc::Global;
 use std::rt::Files;
 use std::{fs, io};

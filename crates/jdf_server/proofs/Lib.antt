@@ -1,4 +1,2 @@
-mod GivenBack
-mod JournalLines
 mod LinesJoined
-mod NamedFiles
+mod TurnsMade

@@ -5,10 +5,10 @@ use Rattle.std.specs.HashMap.{UpdatesBy, get_by_text}
 use Rattle.std.specs.declared.alloc.Global.{Global}
 use Rattle.mio.specs.declared.net.stream.TcpStream.{TcpStream}
 use Rattle.jdf_server.specs.Lines.{Joins, Lines, Stays, errands_in, orders_in, own_in, owner_in}
-use Rattle.jdf_server.specs.declared.line.Line.{Line}
+use Rattle.server_post.specs.declared.line.Line.{Line}
 use Rattle.rounds.specs.declared.errand.Errand.{Errand}
 use Rattle.shop_folder.specs.declared.owner.Owner.{Owner}
-use Rattle.jdf_server.specs.declared.route.Route.{Route}
+use Rattle.server_steps.specs.declared.route.Route.{Route}
 
 module _ {S : Type 0} (r : Route) (e : Errand TcpStream) (old new : Lines S) where
   -- the line that was there has the errand behind those that were in it

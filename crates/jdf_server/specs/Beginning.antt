@@ -1,7 +1,7 @@
 -- A server in its beginning, and what is opened beside the listener of messages.
 use Rattle.std.specs.Prelude.{◌≡◌, None}
 use Rattle.shop_folder.specs.declared.place.Place.{Place}
-use Rattle.jdf_server.specs.declared.clients.Clients.{Clients}
+use Rattle.server_clients.specs.declared.clients.Clients.{Clients}
 use Rattle.jdf_server.specs.declared.server.Server.{Server}
 use Rattle.jdf_server.specs.declared.service.Service.{Service}
 

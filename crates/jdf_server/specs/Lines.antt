@@ -1,17 +1,15 @@
 -- The lines of those who wait, by the paths of the files of their controllers.
-use Rattle.std.specs.Prelude.{◌≡◌, ◌≢◌, ◌++◌, ℕ, Bool, true, false, not, nat_le, List, [], ◌∷◌, Option, Some, None, filter, String, string_bytes}
+use Rattle.std.specs.Prelude.{◌≡◌, ◌≢◌, ◌++◌, ℕ, false, List, [], ◌∷◌, Option, Some, None, String, string_bytes}
 use Rattle.std.specs.declared.alloc.Global.{Global}
 use Rattle.std.specs.HashMap.{HashMap, get_by_text}
 use Rattle.std.specs.Str.{bytes_eq}
 use Rattle.mio.specs.declared.net.stream.TcpStream.{TcpStream}
 use Rattle.mio.specs.declared.net.uds.stream.UnixStream.{UnixStream}
-use Rattle.slab.specs.Slab.{Slab, get}
 use Rattle.rounds.specs.declared.errand.Errand.{Errand}
-use Rattle.jdf_server.specs.declared.entry.Entry.{Entry}
-use Rattle.jdf_server.specs.declared.line.Line.{Line}
-use Rattle.jdf_server.specs.declared.own.Own.{Own}
+use Rattle.server_post.specs.declared.line.Line.{Line}
+use Rattle.server_post.specs.declared.own.Own.{Own}
 use Rattle.shop_folder.specs.declared.owner.Owner.{Owner}
-use Rattle.jdf_server.specs.declared.route.Route.{Route}
+use Rattle.server_steps.specs.declared.route.Route.{Route}
 
 -- ---- who stands where
 
@@ -72,24 +70,3 @@ pub record Stays {S : Type 0} (path : List ℕ) (to : Owner) (left : List (Erran
   pub others :
       (other : List ℕ) → bytes_eq path other ≡ false
       → get_by_text new other ≡ get_by_text old other
-
--- ---- who waits no longer
-
--- the connection of a client is broken, or there is none
-abbrev pub is_broken : Option Entry → Bool
-is_broken (Some e) = e.is_gone
-is_broken None = true
-
--- that of the one with an errand is
-abbrev pub is_gone : Slab Entry → Errand TcpStream → Bool
-is_gone clients e = is_broken (get clients e.waiting.key)
-
--- the one with an errand waited as long as one may
-abbrev pub is_late : ℕ → Errand TcpStream → Bool
-is_late now e = nat_le e.waiting.asked.peer.deadline now
-
--- these are in turn those of the list of which this isn't so, and those of which it is
-pub record IsParted (test : Errand TcpStream → Bool) (all rest those : List (Errand TcpStream))
-    : Type 0 where
-  pub not_so : rest ≡ filter (λ e. not (test e)) all
-  pub so : those ≡ filter test all

@@ -1,6 +1,5 @@
--- What becomes of a client's request: to which controller it leads, who may send it, and where the
--- client stands then.
-use Rattle.std.specs.Prelude.{◌≡◌, ◌⊎◌, ◌&&◌, ℕ, Bool, true, false, List, Option, Some, None, Ok, is_some, bytes_eq, string_bytes}
+-- What becomes of a client's request: who may send it, and where the client stands then.
+use Rattle.std.specs.Prelude.{◌≡◌, ◌⊎◌, ◌&&◌, ℕ, Bool, true, false, List, Option, Some, None, Ok, is_some, bytes_eq}
 use Rattle.std.specs.Option.{option_map}
 use Rattle.mio.specs.declared.net.stream.TcpStream.{TcpStream}
 use Rattle.slab.specs.Slab.{Slab, Updates}
@@ -11,50 +10,20 @@ use Rattle.jmf_message.specs.Decoded.{IsDecodedAs, IsRefusalOf}
 use Rattle.streams.specs.declared.refused.Refused.TheVariants.{Core, Forbidden}
 use Rattle.stored_state.specs.declared.coming.Coming.{Coming}
 use Rattle.stored_state.specs.declared.coming.Coming.TheVariants as comings
-use Rattle.shop_folder.specs.Routes.{file_for}
-use Rattle.shop_folder.specs.declared.lies.Lies.{Lies}
-use Rattle.shop_folder.specs.declared.lies.Lies.TheVariants as lying
 use Rattle.http_message.specs.Message.{HasLone}
 use Rattle.http_message.specs.declared.received.Received.{Received}
 use Rattle.peers.specs.declared.turn.Turn.{Turn}
 use Rattle.peers.specs.declared.turn.Turn.TheVariants as turns
 use Rattle.peers_file.specs.Table.{IsUrlOf, Rows}
 use Rattle.rounds.specs.declared.waiting.WaitingClient.{WaitingClient}
-use Rattle.jdf_server.specs.Clients.{Changes, IsMissed, IsRefused, with_client}
+use Rattle.server_clients.specs.Clients.{Changes, IsMissed, IsRefused, with_client}
+use Rattle.server_steps.specs.Routes.{LeadsNowhere, LeadsTo, LeadsToFile}
 use Rattle.jdf_server.specs.Lines.{Joins}
-use Rattle.jdf_server.specs.declared.entry.Entry.{Entry}
-use Rattle.shop_folder.specs.declared.owner.Owner.{Owner}
-use Rattle.shop_folder.specs.declared.owner.Owner.TheVariants as owners
+use Rattle.server_clients.specs.declared.entry.Entry.{Entry}
 use Rattle.shop_folder.specs.declared.place.Place.{Place}
 use Rattle.shop_folder.specs.declared.place.Place.TheVariants as places
-use Rattle.jdf_server.specs.declared.route.Route.{Route}
+use Rattle.server_steps.specs.declared.route.Route.{Route}
 use Rattle.jdf_server.specs.declared.server.Server.{Server}
-
--- ---- which controller a request is for
-
--- the controller that a message to a folder is for, by what lies there under its receiver's name
-abbrev pub owner_for : Lies → Message → Owner
-owner_for lying.Folder m = owners.WorkerOf m.receiver m.sender
-owner_for _ m = owners.Named m.receiver
-
--- a route leads to the controller in the file of this path, whichever it is
-pub record LeadsToFile (path : List ℕ) (r : Route) : Type 0 where
-  pub file : string_bytes r.path ≡ path
-  pub any : r.to ≡ owners.Any
-
--- a message leads to a controller: to the one that is served; or to the one of the folder to whose
--- file its receiver and its sender lead, by what lies there
-abbrev pub LeadsTo : Place → Message → Route → Type 0
-LeadsTo (places.File path) m r = LeadsToFile path.now r
-LeadsTo (places.Folder path) m r =
-    (lies : Lies) × (file_for path.now lies m.receiver m.sender ≡ Some (string_bytes r.path))
-    × (r.to ≡ owner_for lies m)
-
--- a message leads to no controller
-abbrev pub LeadsNowhere : Place → Message → Type 0
-LeadsNowhere (places.File path) m = ⊥
-LeadsNowhere (places.Folder path) m =
-    (lies : Lies) × (file_for path.now lies m.receiver m.sender ≡ None)
 
 -- ---- who may send
 

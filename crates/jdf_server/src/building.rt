@@ -3,15 +3,11 @@
 ghost use Rattle.std.specs.Prelude.{◌≡◌, IfOk};
 ghost use Rattle.jdf_server.specs.Beginning.{AreClientsOf, IsBegun, ServesOn};
 
-use crate::accepting::LISTENER;
-use crate::clients::Clients;
 use crate::health::Health;
 use crate::orders::ORDERS;
 use crate::page::PAGE;
-use crate::post::Post;
 use crate::server::{MAX_EVENTS, Server};
 use crate::service::Service;
-use crate::watched::ControllerViews;
 use http_message::Methods;
 use indexmap::IndexMap;
 use keepers::Locks;
@@ -20,6 +16,9 @@ use mio::net::TcpListener;
 use mio::{Events, Poll};
 use peers::Limits;
 use rounds::SavedStates;
+use server_clients::{Clients, LISTENER};
+use server_post::Post;
+use server_steps::{ControllerViews, Engine};
 use shop_folder::Place;
 use shop_page::Counts;
 use slab::Slab;
@@ -123,6 +122,7 @@ fn server<'a, R: Locks + Net + Clock + Alloc + Clone + Drop, F: Write + Drop>(
         readers: Guests::new(alloc, PAGE),
         operators: Guests::new(alloc, ORDERS),
         health: Health::new(),
+        engine: Engine::new(),
         lines: IndexMap::new(alloc),
         is_locked_out: false,
         saved,

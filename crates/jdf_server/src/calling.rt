@@ -2,8 +2,6 @@
 
 ghost use Rattle.std.specs.Prelude.{◌≡◌, ◌<◌, length};
 
-use crate::own::{Own, Parcel, Task};
-use crate::post::CallInFlight;
 use crate::server::Server;
 use controller::Message;
 use http_message::{Received, send_to};
@@ -13,6 +11,7 @@ use mio::net::TcpStream;
 use mio::{Interest, Token};
 use peers::{Call, CallLimits, CallTurn};
 use peers_file::Destination;
+use server_post::{CallInFlight, Own, Parcel, Task};
 use std::alloc::{AllocError, Global};
 use std::io::{self, Write};
 use std::mem;

@@ -1,22 +1,14 @@
 //! The lines of the clients whose requests wait: whose turn it is, and what comes of them.
 
-ghost use Rattle.std.specs.Prelude.{◌≡◌, None, Some, IfOk, OnOk, string_bytes};
-ghost use Rattle.slab.specs.Slab.{get};
-ghost use Rattle.jdf_server.specs.Lines.{IsParted, Joins, is_broken, is_gone as is_gone_in};
+ghost use Rattle.std.specs.Prelude.{◌≡◌, None, Some, OnOk, string_bytes};
+ghost use Rattle.jdf_server.specs.Lines.{Joins};
 ghost use Rattle.jdf_server.specs.Requests.{MaySend, Stands, StandsInLine};
 ghost use Rattle.jdf_server.specs.Requests.{StandsOrMisses, StandsWith};
 ghost use Rattle.jdf_server.specs.Requests.{IsKnown, IsTold, StandsWithout};
-ghost use Rattle.jdf_server.specs.Steps.{StepsLineTo, StepsThere, WaitsOn};
+ghost use Rattle.jdf_server.specs.Turns.{StepsLineTo, StepsThere, WaitsOn};
 ghost use Rattle.std.specs.Option.{option_map};
 
-use crate::entry::Entry;
-use crate::hearing::hear_all;
-use crate::line::Line;
-use crate::own::Own;
-use crate::post::Post;
-use crate::route::{Route, route_of};
 use crate::server::Server;
-use crate::stepping::{StepsResult, begin_in_file, is_missing, step_in_file};
 use controller::{Body, Message};
 use http_edge::Received;
 use http_message::lone_field;
@@ -26,8 +18,10 @@ use journal::FileJournal;
 use keepers::Locks;
 use mio::net::{TcpStream, UnixStream};
 use rounds::{Errand, SavedStates, WaitingClient};
+use server_clients::gone_and_there;
+use server_post::{Line, Own, Post, hear_all};
+use server_steps::{Route, StepsResult, begin_at, is_missing_at, route_of, step_at};
 use shop_folder::{Owner, Place};
-use slab::Slab;
 use std::alloc::{AllocError, Global};
 use std::io::Write;
 use std::mem;
@@ -35,14 +29,11 @@ use std::net::Net;
 use std::time::Clock;
 use stored_state::{Coming, SavedState};
 use streams::Refused;
-use ticket_tree::Refusal;
+use ticket_items::Refusal;
 
 /// For how many milliseconds steps are made in one round, so that clients who send and read are
 /// served between them.
 const STEPS_TIME: u64 = 100;
-
-/// Some of a line, and the others.
-type Parted = (Vec<Errand<TcpStream>>, Vec<Errand<TcpStream>>);
 
 /// Whether a worker is begun by what comes: a part, or that one is to be given up.
 fn is_begun_by(coming: &Coming) -> bool {
@@ -53,37 +44,6 @@ fn is_begun_by(coming: &Coming) -> bool {
         },
         Coming::Order(_) | Coming::Neither(_) => false,
     }
-}
-
-/// Whether a client's connection is broken.
-fn is_gone(clients: &Slab<Entry>, key: usize) -> bool
-    ensures { result ≡ is_broken (get clients.now key) }
-{
-    match clients.get(key) {
-        Some(entry) => entry.is_gone,
-        None => true,
-    }
-}
-
-/// Those of a line who are there still, and those whose connections are broken.
-fn gone_and_there(
-    alloc: Global,
-    errands: Vec<Errand<TcpStream>>,
-    clients: &Slab<Entry>,
-) -> Result<Parted, AllocError>
-    ensures { IfOk result (λ parted. IsParted (is_gone_in clients.now) errands.items parted.0.items
-        parted.1.items) }
-{
-    let mut there = Vec::with_capacity(alloc, errands.len())?;
-    let mut gone = Vec::new(alloc);
-    for one in errands {
-        if is_gone(clients, one.waiting.key) {
-            gone.push(one)?;
-        } else {
-            there.push(one)?;
-        }
-    }
-    Ok((there, gone))
 }
 
 /// Whether the field of this name in a head tells the sender, where one is to.
@@ -182,7 +142,7 @@ impl<'a, R: Locks + Net + Clock, F: Write + Drop> Server<'a, R, F> {
     ) -> Result<(), AllocError>
         ensures { OnOk result (StandsOrMisses waiting message self.old self.new) }
     {
-        match route_of(self.rt, self.alloc, &self.place, &message)? {
+        match route_of(self.rt, self.alloc, &self.place, &message, &mut self.engine)? {
             Some(route) => self.stand(route, waiting, Coming::Message(message)),
             None => self.clients.miss(waiting),
         }
@@ -242,7 +202,7 @@ impl<'a, R: Locks + Net + Clock, F: Write + Drop> Server<'a, R, F> {
     pub(crate) fn is_missing(&self, path: &str) -> bool {
         match self.place {
             Place::File(_) => false,
-            Place::Folder(_) => is_missing(self.rt, path),
+            Place::Folder(_) => is_missing_at(self.rt, self.alloc, path, self.engine),
         }
     }
 
@@ -254,9 +214,7 @@ impl<'a, R: Locks + Net + Clock, F: Write + Drop> Server<'a, R, F> {
             return false;
         }
         match to {
-            Owner::WorkerOf(name, master) => {
-                begin_in_file(self.rt, self.alloc, path, name, master)
-            }
+            Owner::WorkerOf(name, master) => { begin_at(self.rt, self.alloc, path, name, master) }
             Owner::Any | Owner::Named(_) => false,
         }
     }
@@ -336,7 +294,7 @@ impl<'a, R: Locks + Net + Clock, F: Write + Drop> Server<'a, R, F> {
         } = line;
         let addressee = to.as_addressee();
         let mut journal = FileJournal::at(self.rt, self.journal);
-        let stepped = step_in_file(
+        let stepped = step_at(
             self.rt,
             self.alloc,
             path.as_str(),
@@ -344,6 +302,7 @@ impl<'a, R: Locks + Net + Clock, F: Write + Drop> Server<'a, R, F> {
             addressee,
             errands,
             self.clients.now,
+            &mut self.engine,
             &mut journal,
         )?;
         self.clients.tell_missed(&journal);

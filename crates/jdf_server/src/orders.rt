@@ -1,14 +1,14 @@
 //! Orders over a local socket: those who give them, and look at what is where.
 
-use crate::line::Line;
 use crate::page::PAGES_TIME;
-use crate::route::{Route, named_route};
 use crate::server::Server;
 use http_message::{Body, Method, Received, missing_bytes, path_of};
 use keepers::Locks;
 use listeners::GuestRequest;
 use mio::net::UnixStream;
 use rounds::{Errand, WaitingClient};
+use server_post::Line;
+use server_steps::{Route, named_route};
 use std::alloc::{Alloc, AllocError, Global};
 use std::io::Write;
 use std::net::Net;
@@ -45,7 +45,7 @@ impl<'a, R: Locks + Net + Clock + Alloc + Clone + Drop, F: Write + Drop> Server<
         name: &str,
         body: &Body,
     ) -> Result<(), AllocError> {
-        match named_route(self.rt, self.alloc, &self.place, name)? {
+        match named_route(self.rt, self.alloc, &self.place, name, &mut self.engine)? {
             Some(route) => {
                 let coming = Coming::Order(bytes_of(self.alloc, body)?);
                 self.join_order(route, Errand { waiting, coming })

@@ -3,17 +3,16 @@
 use crate::health::Health;
 use crate::lines::keep_in;
 use crate::server::Server;
-use crate::stepping::{Look, look_in_file};
-use crate::telling::name_of;
-use crate::watched::ControllerView;
 use controller_form::push_shown;
+use etcd_place::is_etcd;
 use http::StatusCode;
 use http_message::{Method, page_bytes};
 use job_list::Work;
 use job_picture::{push_picture, push_worker_picture};
 use journal::seconds;
 use keepers::Locks;
-use shop_folder::{Place, in_folder};
+use server_steps::{ControllerView, Engine, Look, answers, lists, look_at_path};
+use shop_folder::{Place, in_folder, name_of};
 use shop_page::{
     Delivery, Gauges, OfController, OpenWork, Shop, controller_page, list_json, metrics_text,
     shop_page, worker_json,
@@ -39,6 +38,9 @@ const NO_CONTROLLER: &str = "no controller of this name\n";
 
 /// What is told where a controller can't be looked at, and wasn't looked at before.
 const LOCKED: &str = "somebody else has it locked: load it again\n";
+
+/// The same where the engine that keeps it doesn't tell.
+const UNANSWERED: &str = "etcd doesn't answer: load it again\n";
 
 /// For how many milliseconds a finding about the folder stands.
 const HEALTH_TIME: u64 = 1_000;
@@ -88,6 +90,29 @@ fn can_write<R: Files>(rt: &R, alloc: Global, place: &Place<'_>) -> Result<bool,
             Ok(fs::remove_file(rt, path.as_str()).is_ok() && is_written)
         }
         Err(_) => Ok(false),
+    }
+}
+
+/// Whether controllers can be kept where they are: etcd answers, or a file can be made and written
+/// beside them.
+fn can_keep<R: Files + Net + Clock>(
+    rt: &R,
+    alloc: Global,
+    place: &Place<'_>,
+    engine: &mut Engine,
+) -> Result<bool, AllocError> {
+    match place {
+        Place::File(path) if is_etcd(path) => Ok(answers(rt, alloc, path, engine)),
+        Place::Folder(path) if is_etcd(path) => Ok(lists(rt, alloc, path, engine)),
+        _ => can_write(rt, alloc, place),
+    }
+}
+
+/// What is told where they can't be.
+fn no_room(place: &Place<'_>) -> &'static str {
+    match place {
+        Place::File(path) | Place::Folder(path) if is_etcd(path) => "etcd doesn't answer\n",
+        _ => "the folder of the controllers can't be written\n",
     }
 }
 
@@ -162,17 +187,20 @@ fn look_response(
         (Look::Found(found), _) => {
             picture_or_json(alloc, name, is_json, found.controller(), now)
         }
-        (Look::Same | Look::LockedOut, Some(saved)) => {
+        (Look::Same | Look::LockedOut | Look::Unanswered, Some(saved)) => {
             picture_or_json(alloc, name, is_json, saved.controller(), now)
         }
         (Look::LockedOut, None) => told_page(alloc, StatusCode::SERVICE_UNAVAILABLE, LOCKED),
+        (Look::Unanswered, None) => {
+            told_page(alloc, StatusCode::SERVICE_UNAVAILABLE, UNANSWERED)
+        }
         _ => told_page(alloc, StatusCode::NOT_FOUND, NO_CONTROLLER),
     }
 }
 
 impl<'a, R: Locks + Net + Clock + Alloc + Clone + Drop, F: Write + Drop> Server<'a, R, F> {
     /// How the message of a controller's open work fares.
-    fn delivery_of(&self, number: usize, spawn: ticket_tree::SpawnId) -> Delivery {
+    fn delivery_of(&self, number: usize, spawn: ticket_items::SpawnId) -> Delivery {
         let Some(post) = &self.post else {
             return Delivery::Unknown;
         };
@@ -315,7 +343,7 @@ impl<'a, R: Locks + Net + Clock + Alloc + Clone + Drop, F: Write + Drop> Server<
         if self.health.until <= self.clients.now {
             self.health = Health {
                 until: self.clients.now.saturating_add(HEALTH_TIME),
-                is_written: can_write(self.rt, self.alloc, &self.place)?,
+                is_written: can_keep(self.rt, self.alloc, &self.place, &mut self.engine)?,
             };
         }
         Ok(self.health.is_written)
@@ -325,7 +353,7 @@ impl<'a, R: Locks + Net + Clock + Alloc + Clone + Drop, F: Write + Drop> Server<
     /// was read of one.
     fn health_response(&mut self) -> Result<PageContents, AllocError> {
         if !self.is_written()? {
-            let line = "the folder of the controllers can't be written\n";
+            let line = no_room(&self.place);
             return told_page(self.alloc, StatusCode::SERVICE_UNAVAILABLE, line);
         }
         let shop = self.shop_at(0);
@@ -365,7 +393,8 @@ impl<'a, R: Locks + Net + Clock + Alloc + Clone + Drop, F: Write + Drop> Server<
         };
         let last = self.saved.take(path.as_str());
         let to = seat.owner.as_addressee();
-        let look = look_in_file(self.rt, self.alloc, path.as_str(), to, &last);
+        let (rt, engine) = (self.rt, &mut self.engine);
+        let look = look_at_path(rt, self.alloc, path.as_str(), to, &last, engine);
         let made = look_response(self.alloc, name, is_json, look, &last, now);
         keep_in(self.alloc, &mut self.saved, path.as_str(), last)?;
         made

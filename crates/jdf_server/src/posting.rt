@@ -1,125 +1,24 @@
 //! What goes out by itself: which parts are out, and whose turn it is.
 
-ghost use Rattle.std.specs.Prelude.{◌≡◌, ◌<◌, ◌≤◌, length, IfOk, IfSome};
+ghost use Rattle.std.specs.Prelude.{◌≡◌};
 
-use crate::line::Line;
-use crate::own::{Own, Parcel, Task};
-use crate::post::Post;
 use crate::server::Server;
-use crate::stepping::{OwnStepResult, step_own_in_file};
-use crate::watched::{ControllerView, ControllerViews};
 use deliveries::Flight;
 use indexmap::IndexMap;
 use journal::FileJournal;
 use keepers::Locks;
-use peers_file::Destination;
+use server_post::{Line, Own, Parcel, Task, send_own};
+use server_steps::{ControllerView, ControllerViews, OwnStepResult, step_own_at};
 use shop_folder::Owner;
 use std::alloc::{AllocError, Global};
 use std::io::Write;
 use std::net::Net;
 use std::time::Clock;
 use stored_state::{AnyController, Coming, SavedState, TakenBytes};
-use ticket_tree::{Id, Refusal, SpawnId};
+use ticket_items::Refusal;
 
 /// How much goes out in one round at most.
 const MAX_FLIGHTS: usize = 64;
-
-/// The order to send the part of a spawn once more.
-fn resend_text(alloc: Global, spawn: SpawnId) -> Result<Vec<u8>, AllocError> {
-    let number = spawn.number();
-    let text = format!(in alloc; "{{\"Order\":\"Resend\",\"SpawnID\":\"S{number}\"}}")?;
-    Ok(text.into_bytes())
-}
-
-impl Post {
-    /// The number of the destination of a name, if it has one.
-    fn line_of(&mut self, alloc: Global, name: &Id, now: u64) -> Result<Option<usize>, AllocError>
-        ensures there { IfOk result (λ found. IfSome found (λ line.
-            line < length self.new.deliveries.destinations)) }
-        ensures stay { length self.old.deliveries.destinations
-            ≤ length self.new.deliveries.destinations }
-    {
-        let Some(found) = self.peers.url_of(name.as_str()) else {
-            return Ok(None);
-        };
-        let url = format!(in alloc; "{}{}", found.authority(), found.path())?;
-        match self.targets.get_index_of(url.as_str()) {
-            Some(line) if line < self.deliveries.destinations() => Ok(Some(line)),
-            Some(_) => Ok(None),
-            None => self.add_target(alloc, url, now),
-        }
-    }
-
-    /// The number of one destination more.
-    fn add_target(
-        &mut self,
-        alloc: Global,
-        url: String,
-        now: u64,
-    ) -> Result<Option<usize>, AllocError>
-        ensures there { IfOk result (λ found. IfSome found (λ line.
-            line < length self.new.deliveries.destinations)) }
-        ensures stay { length self.old.deliveries.destinations
-            ≤ length self.new.deliveries.destinations }
-    {
-        let text = format!(in alloc; "http://{url}")?;
-        let Some(destination) = Destination::of(alloc, text.as_str())? else {
-            return Ok(None);
-        };
-        self.targets.reserve(1)?;
-        let line = self.deliveries.add_destination(alloc, now)?;
-        self.targets.insert(url, destination)?;
-        Ok(Some(line))
-    }
-
-    /// The next moment at which something is to be done for what goes out.
-    pub(crate) fn next_moment(&self) -> u64 {
-        if !self.ready.is_empty() {
-            return 0;
-        }
-        let mut next = self.deliveries.wake().unwrap_or(u64::MAX);
-        for (_, flying) in self.calls.iter() {
-            if let Some(call) = &flying.call {
-                next = u64::min(next, call.deadline());
-            }
-        }
-        next
-    }
-
-    /// What is in flight failed.
-    fn fail_all(&mut self, now: u64) {
-        for line in 0..self.deliveries.destinations() {
-            if self.deliveries.flies(line) {
-                self.deliveries.fail_flight(line, now);
-            }
-        }
-    }
-
-    /// Goes on behind a round in which memory ran out: no call goes on.
-    pub(crate) fn recover(&mut self, now: u64) {
-        self.calls.clear();
-        self.ready.clear();
-        self.fail_all(now);
-    }
-
-    /// Sees what a controller has out now.
-    pub(crate) fn see(
-        &mut self,
-        alloc: Global,
-        number: usize,
-        controller: &AnyController,
-        now: u64,
-    ) -> Result<(), AllocError> {
-        let all = controller.out(alloc)?;
-        let mut out = Vec::with_capacity(alloc, all.len())?;
-        for (spawn, name) in all {
-            if let Some(line) = self.line_of(alloc, name, now)? {
-                out.push((spawn, line))?;
-            }
-        }
-        self.deliveries.look(alloc, number, out.as_slice())
-    }
-}
 
 /// Puts something to be done in the line of the controller in the file of this path.
 fn join_own(
@@ -141,18 +40,6 @@ fn join_own(
     line.own.push(own)?;
     lines.insert(path, line)?;
     Ok(())
-}
-
-/// What is to be done so that what is in flight goes out.
-fn send_own(alloc: Global, flight: &Flight, until: u64) -> Result<Own, AllocError> {
-    Ok(Own {
-        parcel: Parcel {
-            spawn: flight.spawn,
-            line: flight.line,
-        },
-        task: Task::Send(resend_text(alloc, flight.spawn)?),
-        until,
-    })
 }
 
 impl<'a, R: Locks + Net + Clock, F: Write + Drop> Server<'a, R, F> {
@@ -338,13 +225,14 @@ impl<'a, R: Locks + Net + Clock, F: Write + Drop> Server<'a, R, F> {
     {
         let last = self.saved.take(path);
         let mut journal = FileJournal::at(self.rt, self.journal);
-        let stepped = step_own_in_file(
+        let stepped = step_own_at(
             self.rt,
             self.alloc,
             path,
             last,
             to.as_addressee(),
             comings,
+            &mut self.engine,
             &mut journal,
         );
         self.clients.tell_missed(&journal);

@@ -2,9 +2,9 @@
 
 ghost use Rattle.std.specs.Prelude.{◌<◌, length};
 
-use crate::clients::BUFFER_SIZE;
 use crate::server::Server;
 use keepers::Locks;
+use server_clients::BUFFER_SIZE;
 use std::alloc::{Alloc, AllocError};
 use std::io::Write;
 use std::net::Net;

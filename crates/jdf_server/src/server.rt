@@ -1,12 +1,11 @@
-use crate::clients::Clients;
 use crate::health::Health;
-use crate::line::Line;
-use crate::post::Post;
-use crate::watched::ControllerViews;
 use indexmap::IndexMap;
 use listeners::{Guests, Moments, OrderListener, PageListener};
 use mio::{Events, Poll};
 use rounds::SavedStates;
+use server_clients::Clients;
+use server_post::{Line, Post};
+use server_steps::{ControllerViews, Engine};
 use shop_folder::Place;
 use std::alloc::Global;
 
@@ -32,6 +31,8 @@ pub struct Server<'a, R, F> {
     /// Those who give orders.
     pub(crate) operators: Guests<OrderListener>,
     pub(crate) health: Health,
+    /// The engine that keeps what is served, where that isn't a file.
+    pub(crate) engine: Engine,
     /// Those whose requests wait, by the paths of their controllers, in the order of their turns.
     pub(crate) lines: IndexMap<String, Line>,
     /// Whether a line waits for a file that somebody else has locked.

@@ -3,7 +3,6 @@
 ghost use Rattle.std.specs.Prelude.{◌<◌, length, OnOk};
 ghost use Rattle.jdf_server.specs.Requests.{Follows};
 
-use crate::accepting::LISTENER;
 use crate::calling::CALLS;
 use crate::orders::ORDERS;
 use crate::page::PAGE;
@@ -12,6 +11,7 @@ use keepers::Locks;
 use mio::net::TcpStream;
 use peers::Turn;
 use rounds::WaitingClient;
+use server_clients::LISTENER;
 use std::alloc::AllocError;
 use std::io::Write;
 use std::net::Net;

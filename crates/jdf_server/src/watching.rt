@@ -1,19 +1,18 @@
 //! The files of what is served, and the peers' file, as they change beside the server.
 
-use crate::houses::Houses;
 use crate::lines::keep_in;
-use crate::post::Post;
 use crate::server::Server;
-use crate::stepping::{Look, look_in_file};
+use etcd_place::is_etcd;
 use keepers::Locks;
-use peers_file::peers_in_file;
+use server_post::{PeersRead, changed_at};
+use server_steps::{Engine, Look, Mark, MarkedFile, Route, controllers_in, look_at_path};
 use shop_folder::{FolderFile, Owner, Place, files_in};
 use std::alloc::{Alloc, AllocError, Global};
 use std::io::{self, Write};
+use std::mem;
 use std::net::Net;
 use std::rt::Files;
 use std::time::{Clock, SystemTime};
-use std::{fs, mem};
 use stored_state::SavedState;
 
 /// After how many milliseconds the files are looked at again.
@@ -22,56 +21,63 @@ const LOOK_TIME: u64 = 1_000;
 /// For how many milliseconds files are read in one round.
 const READ_TIME: u64 = 50;
 
-/// When a file was changed, where the system tells it.
-pub(crate) fn changed_at<R: Files>(rt: &R, path: &str) -> Option<SystemTime> {
-    let there = fs::metadata(rt, path).ok()?;
-    there.modified().ok()
-}
-
-/// What is served, as files.
-fn files_of<R: Files + Alloc + Clone + Drop>(
-    rt: &R,
-    alloc: Global,
-    place: &Place<'_>,
-) -> io::Result<Vec<FolderFile>> {
-    match place {
-        Place::File(file) => {
-            let mut files = Vec::with_capacity(alloc, 1)?;
-            let path = String::from_str(alloc, file)?;
-            let owner = Owner::Any;
-            files.push(FolderFile { path, owner })?;
-            Ok(files)
-        }
-        Place::Folder(folder) => files_in(rt, alloc, folder),
+/// What tells of a file whether it is to be read again: when it was changed.
+fn mark_of<R: Files>(rt: &R, path: &str) -> Option<Mark> {
+    match changed_at(rt, path) {
+        Some(changed) => Some(Mark::Moment(changed)),
+        None => None,
     }
 }
 
-/// What came of a look at the peers' file.
-#[derive(Clone, Copy)]
-enum PeersRead {
-    /// It is as it was.
-    Same,
-    /// It was changed, and read.
-    Changed,
-    /// It is wrong.
-    Wrong,
+/// The same of the one controller that is served: under a key it is read at each look.
+fn mark_of_one<R: Files + Clock>(rt: &R, path: &str) -> Option<Mark> {
+    if !is_etcd(path) {
+        return mark_of(rt, path);
+    }
+    match SystemTime::now(rt) {
+        Ok(now) => Some(Mark::Moment(now)),
+        Err(_) => None,
+    }
 }
 
-impl Post {
-    /// Reads the peers' file, if it was changed. Where it is wrong the table stays as it was.
-    fn read_peers<R: Files>(&mut self, rt: &R, alloc: Global) -> PeersRead {
-        let changed = changed_at(rt, self.file.as_str());
-        if changed.is_none() || changed == self.read_at {
-            return PeersRead::Same;
+/// The files of a folder.
+fn files_of<R: Files + Alloc + Clone + Drop>(
+    rt: &R,
+    alloc: Global,
+    folder: &str,
+) -> io::Result<Vec<MarkedFile>> {
+    let files = files_in(rt, alloc, folder)?;
+    let mut marked = Vec::with_capacity(alloc, files.len())?;
+    for FolderFile { path, owner } in files {
+        let mark = mark_of(rt, path.as_str());
+        let route = Route { path, to: owner };
+        marked.push(MarkedFile { route, mark })?;
+    }
+    Ok(marked)
+}
+
+/// What is served, where that can be told.
+fn served_now<R: Files + Net + Clock + Alloc + Clone + Drop>(
+    rt: &R,
+    alloc: Global,
+    place: &Place<'_>,
+    engine: &mut Engine,
+) -> Result<Option<Vec<MarkedFile>>, AllocError> {
+    match place {
+        Place::File(file) => {
+            let mut files = Vec::with_capacity(alloc, 1)?;
+            let mark = mark_of_one(rt, file);
+            let path = String::from_str(alloc, file)?;
+            let to = Owner::Any;
+            let route = Route { path, to };
+            files.push(MarkedFile { route, mark })?;
+            Ok(Some(files))
         }
-        self.read_at = changed;
-        match peers_in_file(rt, alloc, self.file.as_str()) {
-            Ok(peers) => {
-                self.peers = peers;
-                self.houses = Houses::new(alloc);
-                PeersRead::Changed
+        Place::Folder(folder) => {
+            if is_etcd(folder) {
+                return controllers_in(rt, alloc, folder, engine);
             }
-            Err(_) => PeersRead::Wrong,
+            Ok(files_of(rt, alloc, folder).ok())
         }
     }
 }
@@ -125,13 +131,14 @@ impl<'a, R: Locks + Net + Clock + Alloc + Clone + Drop, F: Write + Drop> Server<
         }
         self.watched.look_at = self.clients.now.saturating_add(LOOK_TIME);
         self.watch_peers()?;
-        let Ok(files) = files_of(self.rt, self.alloc, &self.place) else {
+        let (rt, engine) = (self.rt, &mut self.engine);
+        let Some(files) = served_now(rt, self.alloc, &self.place, engine)? else {
             return Ok(());
         };
         self.watched.forget_places();
-        for FolderFile { path, owner } in files {
-            let changed = changed_at(self.rt, path.as_str());
-            self.watched.notice(path, owner, changed)?;
+        for MarkedFile { route, mark } in files {
+            let Route { path, to } = route;
+            self.watched.notice(path, to, mark)?;
         }
         Ok(())
     }
@@ -160,7 +167,7 @@ impl<'a, R: Locks + Net + Clock + Alloc + Clone + Drop, F: Write + Drop> Server<
         match (look, last) {
             (Look::Found(found), _) => self.see_controller(number, found.controller()),
             (Look::Same, Some(saved)) => self.see_controller(number, saved.controller()),
-            (Look::LockedOut, _) => {
+            (Look::LockedOut | Look::Unanswered, _) => {
                 if let Some(seat) = self.watched.controllers.get_index_mut(number) {
                     seat.seen_at = None;
                 }
@@ -181,7 +188,8 @@ impl<'a, R: Locks + Net + Clock + Alloc + Clone + Drop, F: Write + Drop> Server<
         };
         let last = self.saved.take(path.as_str());
         let to = seat.owner.as_addressee();
-        let look = look_in_file(self.rt, self.alloc, path.as_str(), to, &last);
+        let (rt, engine) = (self.rt, &mut self.engine);
+        let look = look_at_path(rt, self.alloc, path.as_str(), to, &last, engine);
         let path = path.clone()?;
         let seen = self.see_look(number, &look, &last);
         drop(look);

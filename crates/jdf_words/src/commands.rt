@@ -1,7 +1,7 @@
 //! The commands of the program and their arguments, as `clap` is told of them.
 
 ghost use Rattle.std.specs.Prelude.{◌≡◌, [], ◌∷◌, IfOk, Some, codes, false, true};
-ghost use Rattle.clap.specs.Words.{App, Shape, app_of, rule_of, with_subcommand};
+ghost use Rattle.clap.specs.Words.{App, Shape, app_of, new_rule, rule_of, with_subcommand};
 ghost use Rattle.jdf_words.specs.Commands.{all_rule, at_rule, body_rule, check_rules, lone_command};
 ghost use Rattle.jdf_words.specs.Commands.{program_without_commands};
 ghost use Rattle.jdf_words.specs.Commands.{clients_rule, command, edit_rules, file_rule, flag_rule};
@@ -19,14 +19,35 @@ use clap::builder::ValueParser;
 use clap::{Arg, ArgAction, Command};
 use std::alloc::{AllocError, Global};
 
+/// An argument without an option's name, which may be there.
+fn place_argument<'a>(alloc: Global, name: &'a str, help: &'a str) -> Arg<'a>
+    ensures rule { rule_of result ≡ new_rule name.entry.now }
+    ensures local { result.global ≡ false }
+{
+    Arg::new(alloc, name).help(help)
+}
+
 /// FILE, which has to be there.
 fn file_argument<'a>(alloc: Global) -> Arg<'a>
     ensures rule { rule_of result ≡ file_rule }
     ensures local { result.global ≡ false }
 {
-    Arg::new(alloc, "FILE")
-        .required(true)
-        .help("The file that the controller is kept in")
+    place_argument(
+        alloc,
+        "FILE",
+        "The file that the controller is kept in, or its place: etcd://HOST:PORT/NAME",
+    )
+    .required(true)
+}
+
+/// An option that takes a text.
+fn option_argument<'a>(alloc: Global, name: &'a str, value_name: &'a str, help: &'a str) -> Arg<'a>
+    ensures rule { rule_of result ≡ option_rule name.entry.now }
+    ensures local { result.global ≡ false }
+{
+    place_argument(alloc, name, help)
+        .long(name)
+        .value_name(value_name)
 }
 
 /// An option that takes a number, as this parser reads it.
@@ -35,15 +56,13 @@ fn number_argument<'a>(
     name: &'a str,
     value_name: &'a str,
     parser: ValueParser<'a>,
+    help: &'a str,
 ) -> Arg<'a>
     ensures rule { rule_of result
         ≡ record (option_rule name.entry.now) { parser = Some parser.entry } }
     ensures local { result.global ≡ false }
 {
-    Arg::new(alloc, name)
-        .long(name)
-        .value_name(value_name)
-        .value_parser(parser)
+    option_argument(alloc, name, value_name, help).value_parser(parser)
 }
 
 /// `--at N`, which has to be there.
@@ -52,9 +71,14 @@ fn at_argument<'a>(alloc: Global) -> Arg<'a>
     ensures local { result.global ≡ false }
 {
     let parser = clap::value_parser!(u64).range(0..=9_999_999_999);
-    number_argument(alloc, "at", "N", parser)
-        .required(true)
-        .help("The time, in whole seconds since the beginning of 1970")
+    number_argument(
+        alloc,
+        "at",
+        "N",
+        parser,
+        "The time, in whole seconds since the beginning of 1970",
+    )
+    .required(true)
 }
 
 /// `--send URL`.
@@ -62,7 +86,10 @@ fn send_argument<'a>(alloc: Global) -> Arg<'a>
     ensures rule { rule_of result ≡ send_rule }
     ensures local { result.global ≡ false }
 {
-    Arg::new(alloc, "send").long("send").value_name("URL").help(
+    option_argument(
+        alloc,
+        "send",
+        "URL",
         "The address of the controller that the message is sent to, which answers it, or @PEERS",
     )
 }
@@ -72,10 +99,12 @@ fn from_argument<'a>(alloc: Global) -> Arg<'a>
     ensures rule { rule_of result ≡ from_rule }
     ensures local { result.global ≡ false }
 {
-    Arg::new(alloc, "from")
-        .long("from")
-        .value_name("INPUT")
-        .help("The file to read in place of standard input; - is standard input")
+    option_argument(
+        alloc,
+        "from",
+        "INPUT",
+        "The file to read in place of standard input; - is standard input",
+    )
 }
 
 /// `--journal JOURNAL`.
@@ -83,10 +112,12 @@ fn journal_argument<'a>(alloc: Global) -> Arg<'a>
     ensures rule { rule_of result ≡ journal_rule }
     ensures local { result.global ≡ false }
 {
-    Arg::new(alloc, "journal")
-        .long("journal")
-        .value_name("JOURNAL")
-        .help("The file that gets a line for each step")
+    option_argument(
+        alloc,
+        "journal",
+        "JOURNAL",
+        "The file that gets a line for each step",
+    )
 }
 
 /// An option that takes nothing.
@@ -94,10 +125,9 @@ fn flag_argument<'a>(alloc: Global, name: &'a str, help: &'a str) -> Arg<'a>
     ensures rule { rule_of result ≡ flag_rule name.entry.now }
     ensures local { result.global ≡ false }
 {
-    Arg::new(alloc, name)
+    place_argument(alloc, name, help)
         .long(name)
         .action(ArgAction::SetTrue)
-        .help(help)
 }
 
 /// `--picture`.
@@ -114,7 +144,11 @@ fn moment_argument<'a>(alloc: Global) -> Arg<'a>
     ensures local { result.global ≡ false }
 {
     let parser = clap::value_parser!(u64).range(0..=9_999_999_999);
-    number_argument(alloc, "at", "N", parser).help(
+    number_argument(
+        alloc,
+        "at",
+        "N",
+        parser,
         "The time that spans are counted to, in whole seconds since 1970; the clock's if none\n\
         is named",
     )
@@ -125,7 +159,9 @@ fn kind_argument<'a>(alloc: Global) -> Arg<'a>
     ensures rule { rule_of result ≡ kind_rule }
     ensures local { result.global ≡ false }
 {
-    Arg::new(alloc, "KIND").help(
+    place_argument(
+        alloc,
+        "KIND",
         "What it is: ticket, edits, order, message, script, opening or state; by its members if\n\
         none is named",
     )
@@ -148,9 +184,7 @@ fn refusal_argument<'a>(alloc: Global) -> Arg<'a>
     ensures rule { rule_of result ≡ refusal_rule }
     ensures local { result.global ≡ false }
 {
-    Arg::new(alloc, "N")
-        .required(true)
-        .help("The refusal's number")
+    place_argument(alloc, "N", "The refusal's number").required(true)
 }
 
 /// `--listen ADDR`, which has to be there.
@@ -158,11 +192,13 @@ fn listen_argument<'a>(alloc: Global) -> Arg<'a>
     ensures rule { rule_of result ≡ listen_rule }
     ensures local { result.global ≡ false }
 {
-    Arg::new(alloc, "listen")
-        .long("listen")
-        .required(true)
-        .value_name("ADDR")
-        .help("The address to listen on, as 127.0.0.1:8010")
+    option_argument(
+        alloc,
+        "listen",
+        "ADDR",
+        "The address to listen on, as 127.0.0.1:8010",
+    )
+    .required(true)
 }
 
 /// `--limit SECONDS`.
@@ -171,7 +207,11 @@ fn limit_argument<'a>(alloc: Global) -> Arg<'a>
     ensures local { result.global ≡ false }
 {
     let parser = clap::value_parser!(u64).range(1..=3600);
-    number_argument(alloc, "limit", "SECONDS", parser).help(
+    number_argument(
+        alloc,
+        "limit",
+        "SECONDS",
+        parser,
         "The longest time for a connection, from 1 to 3600 seconds; 5 if none is named",
     )
 }
@@ -182,7 +222,11 @@ fn clients_argument<'a>(alloc: Global) -> Arg<'a>
     ensures local { result.global ≡ false }
 {
     let parser = clap::value_parser!(u64).range(1..=65_536);
-    number_argument(alloc, "clients", "COUNT", parser).help(
+    number_argument(
+        alloc,
+        "clients",
+        "COUNT",
+        parser,
         "How many connections are held at most, from 1 to 65536; 1024 if none is named",
     )
 }
@@ -193,7 +237,11 @@ fn body_argument<'a>(alloc: Global) -> Arg<'a>
     ensures local { result.global ≡ false }
 {
     let parser = clap::value_parser!(u64).range(1..=1_073_741_824);
-    number_argument(alloc, "body", "BYTES", parser).help(
+    number_argument(
+        alloc,
+        "body",
+        "BYTES",
+        parser,
         "How large a message may be, from 1 to 1073741824 bytes; 67108864 if none is named",
     )
 }
@@ -204,7 +252,11 @@ fn memory_argument<'a>(alloc: Global) -> Arg<'a>
     ensures local { result.global ≡ false }
 {
     let parser = clap::value_parser!(u64).range(1_048_576..=1_099_511_627_776);
-    number_argument(alloc, "memory", "BYTES", parser).help(
+    number_argument(
+        alloc,
+        "memory",
+        "BYTES",
+        parser,
         "How much memory requests and kept controllers may take together, from 1048576 to\n\
         1099511627776 bytes; 268435456 if none is named",
     )
@@ -216,7 +268,11 @@ fn requests_argument<'a>(alloc: Global) -> Arg<'a>
     ensures local { result.global ≡ false }
 {
     let parser = clap::value_parser!(u64).range(1..);
-    number_argument(alloc, "requests", "COUNT", parser).help(
+    number_argument(
+        alloc,
+        "requests",
+        "COUNT",
+        parser,
         "How many connections to answer; no end if none is named",
     )
 }
@@ -226,10 +282,12 @@ fn peers_argument<'a>(alloc: Global) -> Arg<'a>
     ensures rule { rule_of result ≡ peers_rule }
     ensures local { result.global ≡ false }
 {
-    Arg::new(alloc, "peers")
-        .long("peers")
-        .value_name("PEERS")
-        .help("The file that tells where other controllers are: messages go there by themselves")
+    option_argument(
+        alloc,
+        "peers",
+        "PEERS",
+        "The file that tells where other controllers are: messages go there by themselves",
+    )
 }
 
 /// `--sender-field NAME`.
@@ -237,10 +295,12 @@ fn sender_field_argument<'a>(alloc: Global) -> Arg<'a>
     ensures rule { rule_of result ≡ sender_field_rule }
     ensures local { result.global ≡ false }
 {
-    Arg::new(alloc, "sender-field")
-        .long("sender-field")
-        .value_name("NAME")
-        .help("The header field in which a proxy tells who sends; another's messages are refused")
+    option_argument(
+        alloc,
+        "sender-field",
+        "NAME",
+        "The header field in which a proxy tells who sends; another's messages are refused",
+    )
 }
 
 /// `--page ADDR`.
@@ -248,7 +308,10 @@ fn page_argument<'a>(alloc: Global) -> Arg<'a>
     ensures rule { rule_of result ≡ page_rule }
     ensures local { result.global ≡ false }
 {
-    Arg::new(alloc, "page").long("page").value_name("ADDR").help(
+    option_argument(
+        alloc,
+        "page",
+        "ADDR",
         "The address of the page on which people see what is where: host and port, or a port",
     )
 }
@@ -258,10 +321,12 @@ fn orders_argument<'a>(alloc: Global) -> Arg<'a>
     ensures rule { rule_of result ≡ orders_rule }
     ensures local { result.global ≡ false }
 {
-    Arg::new(alloc, "orders")
-        .long("orders")
-        .value_name("SOCKET")
-        .help("The path of a local socket over which its owner gives orders")
+    option_argument(
+        alloc,
+        "orders",
+        "SOCKET",
+        "The path of a local socket over which its owner gives orders",
+    )
 }
 
 /// URL, which has to be there.
@@ -269,9 +334,12 @@ fn url_argument<'a>(alloc: Global) -> Arg<'a>
     ensures rule { rule_of result ≡ url_rule }
     ensures local { result.global ≡ false }
 {
-    Arg::new(alloc, "URL").required(true).help(
+    place_argument(
+        alloc,
+        "URL",
         "The address of the controller, as http://127.0.0.1:8010/jmf, or @PEERS",
     )
+    .required(true)
 }
 
 /// FILE, which may be there.
@@ -279,7 +347,9 @@ fn message_argument<'a>(alloc: Global) -> Arg<'a>
     ensures rule { rule_of result ≡ message_rule }
     ensures local { result.global ≡ false }
 {
-    Arg::new(alloc, "FILE").help(
+    place_argument(
+        alloc,
+        "FILE",
         "The file that the message is in; standard input if none is named, or if it is -",
     )
 }
@@ -353,16 +423,30 @@ fn show_command<'a>(alloc: Global) -> Result<Command<'a>, AllocError>
         .arg(moment_argument(alloc))
 }
 
+/// `--open`.
+fn open_argument<'a>(alloc: Global) -> Arg<'a>
+    ensures rule { rule_of result ≡ flag_rule (codes "open") }
+    ensures local { result.global ≡ false }
+{
+    flag_argument(alloc, "open", "Lists only what is open")
+}
+
+/// `--json`.
+fn json_argument<'a>(alloc: Global) -> Arg<'a>
+    ensures rule { rule_of result ≡ flag_rule (codes "json") }
+    ensures local { result.global ≡ false }
+{
+    flag_argument(alloc, "json", "Prints JSON, one value on each line")
+}
+
 /// The command that lists what is out.
 fn list_command<'a>(alloc: Global) -> Result<Command<'a>, AllocError>
     ensures { IfOk result (λ made. app_of made ≡ lone_command (command (codes "list") list_rules)) }
 {
-    let open = flag_argument(alloc, "open", "Lists only what is open");
-    let json = flag_argument(alloc, "json", "Prints JSON, one value on each line");
     file_command(alloc, "list", help::LIST)?
         .arg(moment_argument(alloc))?
-        .arg(open)?
-        .arg(json)
+        .arg(open_argument(alloc))?
+        .arg(json_argument(alloc))
 }
 
 /// The command that checks a document.

@@ -3,7 +3,9 @@
 #![tactic(auto)]
 
 pub mod laws;
+mod numbers;
 mod rows;
 mod table;
 
+pub use numbers::named_number;
 pub use table::text_of;

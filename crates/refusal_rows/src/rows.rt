@@ -303,7 +303,8 @@ pub(crate) const ROWS: &[Row] = &[
         "57",
         "57 SaveFailed\n\
          When it comes: the state wasn't saved, or `new` found FILE there\n\
-         Leaves: the old state or the new; no message is sent; status 4\n\
+         Leaves: the old state or the new, which in etcd may still come; no message is sent; \
+            status 4\n\
          What to do: see which by `show`, mend the cause, run it again\n",
     ),
     (

@@ -1,3 +1,4 @@
+pub mod Anewed
 pub mod Answering
 pub mod Keeping
 mod Parting

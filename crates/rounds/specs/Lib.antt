@@ -1,3 +1,4 @@
+pub mod Anew
 pub mod Kept
 pub mod Line
 pub mod Orders

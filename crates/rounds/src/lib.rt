@@ -2,6 +2,7 @@
 //! controllers that are kept in memory.
 #![tactic(auto)]
 
+mod anew;
 mod answered;
 mod errand;
 mod line;
@@ -9,9 +10,11 @@ mod orders;
 mod receipt;
 mod recipient;
 mod room;
+mod round_keep;
 mod saved_states;
 mod waiting;
 
+pub use anew::take_anew;
 pub use answered::{AnsweredClient, refuse};
 pub use errand::Errand;
 pub use line::{answer_all, refuse_errands};
@@ -19,5 +22,6 @@ pub use orders::AnsweredOperator;
 pub use receipt::Receipt;
 pub use recipient::Recipient;
 pub use room::Room;
+pub use round_keep::{Given, RoundKeep};
 pub use saved_states::SavedStates;
 pub use waiting::WaitingClient;

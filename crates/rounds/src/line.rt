@@ -8,10 +8,10 @@ ghost use Rattle.rounds.specs.Line.{AreTold, AreToldOf, TellsLine};
 use crate::errand::Errand;
 use crate::recipient::Recipient;
 use crate::room::Room;
+use crate::round_keep::RoundKeep;
 use crate::waiting::WaitingClient;
-use keepers::Keep;
 use std::alloc::Global;
-use stored_state::{Addressee, Coming, SavedState, TakenBytes, take_all};
+use stored_state::{Addressee, Coming, SavedState, TakenBytes};
 use streams::Refused;
 use ticket_items::Refusal;
 
@@ -122,7 +122,7 @@ fn refused_to_clients(refused: Refused) -> Refused
 /// response at this moment, in milliseconds: who sent a message the answer to it, who gave an order
 /// what was replied. Gives the controller with the text that was saved. Where it can't be loaded or
 /// saved, or isn't one that is addressed, each is refused with a status of 503.
-pub fn answer_all<K: Keep, S: Drop, A: Recipient<S>>(
+pub fn answer_all<K: RoundKeep, S: Drop, A: Recipient<S>>(
     alloc: Global,
     keep: &mut K,
     last: Option<SavedState>,
@@ -138,7 +138,8 @@ pub fn answer_all<K: Keep, S: Drop, A: Recipient<S>>(
     // client's own request: what clients have come for came to it one after the other, it is one
     // that is addressed, and the state behind the last is held before any response is given; so a
     // 200 tells of a step that is saved. What the message was taken as is told, and who sent it.
-    // By `steps`, `place`; `Room::new`, `AnsweredClient::tell`.
+    // By `steps`, `place`; `RoundKeep::take_round`: `ok`, `each`, `place`, `refused`;
+    // `Room::new`, `AnsweredClient::tell`.
     // Not proved: that memory doesn't run out for a response.
     // Proved: Where the controller can't be loaded or saved, or isn't one that is addressed, each
     // is refused with a status of 503, and what is held is what was, or the state behind the last.
@@ -153,7 +154,7 @@ pub fn answer_all<K: Keep, S: Drop, A: Recipient<S>>(
         comings,
     } = room;
     let (waiting, comings) = waiting_and_comings(errands, waiting, comings);
-    match take_all(alloc, keep, last, to, comings, at) {
+    match keep.take_round(alloc, last, to, comings, at) {
         Ok((given, saved)) => (give_all(alloc, waiting, answered, given, now), saved),
         Err(refused) => {
             let refused = refused_to_clients(refused);

@@ -1,7 +1,7 @@
 //! Runs of `edit` over readers and writers that are slow, cut, interrupted or fail.
 
 use super::fakes::{Sink, Source};
-use jdf_commands::run_edit;
+use document_commands::run_edit;
 use std::alloc::Global;
 use std::io::ErrorKind;
 use streams::{Counted, MAX_INPUT_BYTES};

@@ -6,7 +6,7 @@
 use super::lent::Lent;
 use super::loads;
 use super::texts::{ABORT, CLOSED_AND_DECLINED, NO_ENTRY, RETURN_TAKEN, SUBMIT};
-use jdf_commands::step_output;
+use file_commands::step_output;
 use keepers::{Cut, CutKeep, FailingKeep, Keep};
 use std::alloc::{AllocError, Global};
 use std::test::Fail;

@@ -8,11 +8,12 @@ ghost use Rattle.streams.specs.Streams.{traffic};
 
 use crate::order_command::send_order::SendOrder;
 use crate::send_command::{DONE, SendTo, no_place, post, tell_no_peer, tell_no_url, tell_status};
-use http_message::MAX_BODY_BYTES;
-use jdf_commands::{
-    CausedFault, OrderOutput, answer_output, finish_noting, give_up_caused, order_in_file,
-    order_noted, step_output, take_in_file,
+use document_commands::{CausedFault, give_up_caused};
+use file_commands::{
+    OrderOutput, answer_output, finish_noting, order_in_file, order_noted, step_output,
+    take_in_file,
 };
+use http_message::MAX_BODY_BYTES;
 use jmf_message::{Reply, decode};
 use journal::Journal;
 use keepers::Locks;
@@ -198,7 +199,7 @@ pub fn run_send_order<R: Locks + Net + Clock, I: Read, W: Write, F: Write, J: Jo
 ) -> u8
     // Proved: `order --send` writes the line of the reply of a step that was saved, as `order`
     // does; where a message goes out and that line was written with status 0, it writes behind it
-    // what `answer_output` of `jdf_commands` writes of some answer that the controller in the file
+    // what `answer_output` of `file_commands` writes of some answer that the controller in the file
     // has taken, or nothing, where there is none, where another status came, where no URL is known
     // for the receiver, or where the fault is told. Or memory runs out for the URL or for that
     // line, or the text begins with `@`, and memory runs out for the peers' file that it names or

@@ -2,8 +2,8 @@
 
 use crate::input_file::{file_of, open_input};
 use crate::send_command::connecting::connect;
+use document_commands::CausedFault;
 use http_message::{MAX_BODY_BYTES, Received, receive, send_to};
-use jdf_commands::CausedFault;
 use peers_file::Destination;
 use std::alloc::Global;
 use std::io::{Read, Write};

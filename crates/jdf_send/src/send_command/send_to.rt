@@ -3,7 +3,7 @@
 ghost use Rattle.std.specs.Prelude.{◌≡◌, IfErr, IfOk, option_copied};
 ghost use Rattle.jdf_send.specs.SendCommand.{GoesTo, IsNoPlace, IsPlaceIn, names_peers};
 
-use jdf_commands::CausedFault;
+use document_commands::CausedFault;
 use jmf_message::decode;
 use peers_file::{Destination, NO_PEERS, PeerTable, peers_in_file};
 use std::alloc::Global;

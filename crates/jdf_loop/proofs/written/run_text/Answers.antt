@@ -1,5 +1,5 @@
 use Rattle.std.proofs.Common.{◌∙◌, ◌++◌, ap}
-use Rattle.jdf_commands.specs.FileCommands.Shown.{master_text}
+use Rattle.controller_form.specs.ShownMaster.{master_text}
 use Rattle.jdf_loop.specs.EventLine.{lines}
 use Rattle.jdf_loop.proofs.written.run_text.Goals as goal
 

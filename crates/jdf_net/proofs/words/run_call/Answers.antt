@@ -1,8 +1,14 @@
-use Rattle.jdf_net.proofs.AnyCalls.{over_files}
+use Rattle.std.proofs.Common.{◌∙◌, refl, sym}
+use Rattle.jdf_net.proofs.AnyCalls.{not_over_network, sends_none, sends_of_file}
 use Rattle.jdf_net.proofs.words.run_call.Goals as goal
 
 pub returns-in_default : goal.returns-in_default
-returns-in_default g c = over_files _ _ _ _ _ c.in_default.not-Loop c.in_default.not-SendOrder c.in_default.not-Serve c.in_default.not-Send c.run_file.ensures
+returns-in_default g c = not_over_network _ _ _ _ _ c.in_default.not-Loop c.in_default.not-SendOrder c.in_default.not-Serve c.in_default.not-Send c.run_local.ensures
 
-pub returns-in-SendOrder : goal.returns-in-SendOrder
-returns-in-SendOrder g c = rw c.in-SendOrder.is c.run_send_order.ensures
+pub returns-then-is_etcd : goal.returns-then-is_etcd
+returns-then-is_etcd g c =
+    rw c.in-SendOrder.is (sends_none _ _ _ _ _ _ _ _ (sym c.is_etcd.ensures ∙ c.if-is_etcd.true) (refl, refl, c.refuse_sending.ensures))
+
+pub returns-else-is_etcd : goal.returns-else-is_etcd
+returns-else-is_etcd g c =
+    rw c.in-SendOrder.is (sends_of_file _ _ _ _ _ _ _ _ (sym c.is_etcd.ensures ∙ c.if-is_etcd.false) c.run_send_order.ensures)

@@ -1,6 +1,6 @@
 use Rattle.std.proofs.Common.{IfSome, inl, subst}
 use Rattle.std.proofs.lemmas.Result.{on_ok_weaker}
-use Rattle.jdf_server.specs.Requests.{LeadsTo}
+use Rattle.server_steps.specs.Routes.{LeadsTo}
 use Rattle.jdf_server.proofs.server.Server.stand_or_miss.Goals as goal
 
 pub returns-in-Some : goal.returns-in-Some

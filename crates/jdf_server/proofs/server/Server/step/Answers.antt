@@ -1,7 +1,7 @@
 use Rattle.std.proofs.Common.{inl, inr, subst, sym}
 use Rattle.std.proofs.lemmas.Result.{on_ok_weaker}
-use Rattle.jdf_server.specs.Clients.{AreMissed}
-use Rattle.jdf_server.proofs.GivenBack.{none_left, on_ok}
+use Rattle.server_clients.specs.Clients.{AreMissed}
+use Rattle.jdf_server.proofs.TurnsMade.{none_left, on_ok}
 use Rattle.jdf_server.proofs.server.Server.step.Goals as goal
 
 pub returns-then-is_empty : goal.returns-then-is_empty

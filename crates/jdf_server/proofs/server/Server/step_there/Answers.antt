@@ -1,9 +1,11 @@
 use Rattle.std.proofs.Common.{◌∙◌, Some, inl, inr, string_bytes, subst, sym}
 use Rattle.std.proofs.lemmas.Result.{on_ok_weaker}
-use Rattle.keepers.specs.SystemFile.{count, file_bytes, is_honest, keep_in_file, load_fails, place, save_fails}
-use Rattle.jdf_server.specs.Clients.{AreGivenBack}
-use Rattle.jdf_server.specs.Steps.{IsStepped, RefusesLate, StepsKept}
-use Rattle.jdf_server.proofs.GivenBack.{on_ok}
+use Rattle.etcd_place.specs.Place.{is_etcd}
+use Rattle.rounds.specs.Line.{HasAnswer}
+use Rattle.server_clients.specs.Clients.{AreGivenBack}
+use Rattle.server_clients.specs.Waiting.{RefusesLate}
+use Rattle.server_steps.specs.Steps.{IsSteppedAt, TellsAt}
+use Rattle.jdf_server.proofs.TurnsMade.{on_ok}
 use Rattle.jdf_server.proofs.server.Server.step_there.Goals as goal
 
 pub returns-in_ok-keep_saved-in-Answered : goal.returns-in_ok-keep_saved-in-Answered
@@ -17,7 +19,7 @@ returns-in_ok-keep_saved-in-Answered g c =
       addressed = c.as_addressee-addressee.ensures.owner;
       answered = c.in-Answered.answered.items;
       saved = c.in-Answered.saved;
-      steps = subst (λ bytes. StepsKept is_honest file_bytes place count load_fails save_fails (keep_in_file bytes) c.as_addressee-addressee.result c.args.self.now.clients.now c.args.line.errands.items c.in-Answered.answered.items c.in-Answered.saved) c.as_str-2.ensures.value (subst (λ it. IsStepped c.as_str-2.result.now c.as_addressee-addressee.result c.args.self.now.clients.now c.args.line.errands.items c.take-last.result it) c.in-Answered.is c.in_ok-stepped.ensures.steps);
+      steps = subst (λ bytes. TellsAt _ (HasAnswer c.args.self.now.clients.now) (is_etcd bytes) bytes c.as_addressee-addressee.result c.args.line.errands.items c.in-Answered.answered.items c.in-Answered.saved) c.as_str-2.ensures.value (subst (λ it. IsSteppedAt _ (is_etcd c.as_str-2.result.now) c.as_str-2.result.now c.as_addressee-addressee.result c.args.self.now.clients.now c.args.line.errands.items c.take-last.result it) c.in-Answered.is c.in_ok-stepped.ensures.steps);
       back = subst (λ clients. AreGivenBack (Some (string_bytes c.args.path)) c.in-Answered.answered.items c.args.self.now.clients.all clients) (sym stays) back;
     }))
 
@@ -27,7 +29,7 @@ returns-in-LockedOut g c =
     let now = c.args.self.now.clients.now in
     let after = c.wait_on.new.self in
     let left = c.in-LockedOut.errands.items in
-    let same = (subst (λ it. IsStepped c.as_str-2.result.now c.as_addressee-addressee.result now c.args.line.errands.items c.take-last.result it) c.in-LockedOut.is c.in_ok-stepped.ensures.steps).0 in
+    let same = (subst (λ it. IsSteppedAt _ (is_etcd c.as_str-2.result.now) c.as_str-2.result.now c.as_addressee-addressee.result now c.args.line.errands.items c.take-last.result it) c.in-LockedOut.is c.in_ok-stepped.ensures.steps).1 in
     on_ok_weaker c.wait_on.result
     (λ waits. inr (
       waits.0,

@@ -1,8 +1,8 @@
 use Rattle.std.proofs.Common.{◌∙◌, string_bytes, subst, sym}
-use Rattle.jdf_server.specs.Steps.{RefusesLate}
-use Rattle.jdf_server.proofs.GivenBack.{none_left}
+use Rattle.server_clients.specs.Waiting.{RefusesLate}
+use Rattle.jdf_server.proofs.TurnsMade.{none_left}
 use Rattle.jdf_server.proofs.LinesJoined.{stays_with, stays_without}
-use Rattle.jdf_server.specs.declared.line.Line.{Line}
+use Rattle.server_post.specs.declared.line.Line.{Line}
 use Rattle.jdf_server.proofs.server.Server.wait_on.Goals as goal
 
 pub returns-in_ok-insert : goal.returns-in_ok-insert

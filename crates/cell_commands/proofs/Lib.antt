@@ -1,0 +1,7 @@
+mod AnyCall
+mod Begun
+mod FirstHeld
+mod Giving
+mod Making
+mod Refusing
+mod Revisions

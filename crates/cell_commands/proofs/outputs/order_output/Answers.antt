@@ -1,0 +1,29 @@
+use Rattle.std.proofs.Common.{option_map, subst, sym}
+use Rattle.streams.specs.Streams.{traffic}
+use Rattle.stored_state.specs.AnyStep.{IsNoOrder, IsOrdered}
+use Rattle.file_commands.specs.Notes.{notes_of_order}
+use Rattle.cell_commands.specs.Faults.{DoesNone}
+use Rattle.cell_commands.proofs.Giving.{does_step}
+use Rattle.cell_commands.proofs.Making.{err_told}
+use Rattle.cell_commands.proofs.Refusing.{memory_none}
+use Rattle.cell_commands.proofs.outputs.order_output.Goals as goal
+
+pub returns-in_err-given-clause-refused : goal.returns-in_err-given-clause-refused
+returns-in_err-given-clause-refused g c =
+    let input = traffic g.I.Read.remaining c.args.reader.now c.order_in_cell.new.reader in
+    err_told _ (DoesNone IsNoOrder input) c.from_residual.result c.from_residual.ensures.1
+    (λ e is. subst (DoesNone IsNoOrder input) (sym is) c.in_err-given.ensures.refused)
+
+pub returns-in_err-order_noted-clause-refused : goal.returns-in_err-order_noted-clause-refused
+returns-in_err-order_noted-clause-refused g c =
+    let input = traffic g.I.Read.remaining c.args.reader.now c.order_in_cell.new.reader in
+    let gives = c.in_ok-given.ensures.ok in
+    err_told _ (DoesNone IsNoOrder input) c.from_residual-in_err-order_noted.result c.from_residual-in_err-order_noted.ensures.1
+    (λ e is. memory_none IsNoOrder input gives.0 c.in_err-order_noted.field-0.0 e gives.1 is c.in_err-order_noted.ensures.memory)
+
+pub returns-clause-ok : goal.returns-clause-ok
+returns-clause-ok g c =
+    let given = c.in_ok-given.given in
+    does_step (IsOrdered c.args.at) notes_of_order g.C.Cell.is_honest (g.C.Cell.view c.over-keep.result.cell).chain (g.C.Cell.view c.order_in_cell.new.keep.cell).chain
+    (traffic g.I.Read.remaining c.args.reader.now c.order_in_cell.new.reader) given.reply (option_map (λ b. b.items) given.message) given.notes.items _ _ _
+    c.in_ok-given.ensures.ok c.in_ok-order_noted.ensures.lines c.in_ok-order_noted.ensures.status c.in_ok-order_noted.ensures.notes

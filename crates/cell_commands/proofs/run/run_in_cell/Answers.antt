@@ -1,0 +1,20 @@
+use Rattle.std.proofs.Common.{inl, inr, refl, subst, sym, ◌∙◌, ap}
+use Rattle.streams.specs.Fault.{fault_status}
+use Rattle.streams.specs.Streams.{traffic}
+use Rattle.document_commands.specs.Caused.{TellsCaused}
+use Rattle.cell_commands.proofs.run.run_in_cell.Goals as goal
+
+pub returns-in-Ok : goal.returns-in-Ok
+returns-in-Ok g c = inl (c.in-Ok.noted.output.text.items, c.in-Ok.noted.output.refused, c.in-Ok.noted.notes.items, c.in-Ok.ensures.ok, c.finish_noting.ensures.done)
+
+pub returns-in-Err : goal.returns-in-Err
+returns-in-Err g c =
+    inr (
+      c.in-Err.fault,
+      c.in-Err.ensures.refused,
+      (
+        refl,
+        subst (λ f. TellsCaused f (traffic g.F.Write.contents c.args.faults.now c.give_up_caused.new.faults)) c.caused_by.ensures c.give_up_caused.ensures.errors,
+        c.give_up_caused.ensures.status ∙ ap fault_status c.caused_by.ensures,
+      ),
+    )

@@ -1,0 +1,135 @@
+-- How a call on the controller that a cell keeps ends. Nothing is known of what a cell behind a
+-- socket holds: what was read is some text.
+use Rattle.std.specs.Prelude.{◌≡◌, ◌⊎◌, ℕ, Bool, true, false, List, [], ◌∷◌, Option, Result}
+use Rattle.ticket_items.specs.declared.refusal.Refusal.{Refusal}
+use Rattle.jdf_words.specs.declared.call.Call.{Call}
+use Rattle.jdf_words.specs.declared.call.Call.TheVariants.{New, Order, Take, Show, Listing}
+use Rattle.jmf_message.specs.Decoded.{IsRefusalOf as IsUndecoded}
+use Rattle.streams.specs.Ends.{IsUnread}
+use Rattle.streams.specs.Streams.{IsInput, IsUntouched, Traffic}
+use Rattle.streams.specs.declared.refused.Refused.TheVariants.{NoConnection}
+use Rattle.streams.specs.declared.fault.Fault.{Fault}
+use Rattle.streams.specs.declared.fault.Fault.TheVariants.{Device}
+use Rattle.cells.specs.Chain.{Version, newest}
+use Rattle.cells.specs.Kept.{IsPartOf}
+use Rattle.stored_state.specs.AnyStep.{IsHanded, IsNoOrder, IsOrdered, text_of}
+use Rattle.stored_state.specs.declared.any_controller.AnyController.{AnyController}
+use Rattle.stored_state.specs.declared.addressee.Addressee.TheVariants.{Any}
+use Rattle.world_items.specs.declared.reply.Reply.{Reply}
+use Rattle.document_commands.specs.Caused.{GivesUpCaused}
+use Rattle.file_commands.specs.Beginning.{IsBeginning, IsNoBeginning}
+use Rattle.file_commands.specs.Commands.{IsMoment, Shows, Steps}
+use Rattle.file_commands.specs.Listing.{ListsOne}
+use Rattle.file_commands.specs.Notes.{GivesOutNoting, no_notes, notes_of_order}
+use Rattle.file_commands.specs.Step.{is_refused, step_lines}
+use Rattle.cell_commands.specs.Faults.{DoesNone, IsNotTold, IsUnloaded, IsUnsaved, fault_in}
+use Rattle.cell_commands.specs.Faults.{out_of_memory}
+use Rattle.cell_commands.specs.Given.{GivesStep}
+use Rattle.cell_commands.specs.declared.cell_fault.CellFault.{CellFault}
+use Rattle.cell_commands.specs.declared.cell_fault.CellFault.TheVariants as cell_faults
+
+-- a text in memory holds itself
+abbrev pub text_held : List ℕ → List ℕ
+text_held text = text
+
+abbrev pub is_held : List ℕ → Bool
+is_held text = true
+
+abbrev pub has_no_place : List ℕ → List ℕ
+has_no_place text = []
+
+-- ---- what is written
+
+-- `order` and `take`: a step was given out, its lines are written, this tells whether it was
+-- refused, and what its reply and the state then have noted is noted
+pub record DoesStep (IsStep : Steps) (notes_behind : Result Reply Refusal → AnyController → List ℕ)
+    (input : Traffic) (text : List ℕ) (refused : Bool) (notes : List ℕ) : Type 0 where
+  pub reply : Result Reply Refusal
+  pub sent : Option (List ℕ)
+  pub given : GivesStep IsStep false [] [] input reply sent (notes_behind reply) notes
+  pub written : text ≡ step_lines reply sent
+  pub told : refused ≡ is_refused reply
+
+-- a text was held first: the cell held none before
+pub record IsHeldFirst (old new : List Version) (text : List ℕ) : Type 0 where
+  pub before : List Version
+  pub since : IsPartOf old before
+  pub none : (newest before).revision ≡ 0
+  pub value : Version
+  pub bytes : value.bytes ≡ text
+  pub is : new ≡ value ∷ before
+
+-- `new`: the input begins a controller, the text of whose state an honest cell holds then, as its
+-- first; and nothing is written
+pub record BeginsInCell (is_honest : Bool) (old new : List Version) (input : Traffic)
+    (text : List ℕ) (refused : Bool) (notes : List ℕ) : Type 0 where
+  pub bytes : List ℕ
+  pub is_input : IsInput input bytes
+  pub controller : AnyController
+  pub beginning : IsBeginning Any bytes controller
+  pub begun : is_honest ≡ true → IsHeldFirst old new (text_of controller)
+  pub written : text ≡ []
+  pub accepted : refused ≡ false
+  pub noted : notes ≡ []
+
+-- `show` and `list`, at the moment that is named or another, of the controller whose text was read
+abbrev pub ShowsText : Bool → Option ℕ → List ℕ → Bool → List ℕ → Type 0
+ShowsText picture at text refused notes =
+    (now : ℕ) × IsMoment at now × (held : List ℕ)
+    × Shows picture now is_held text_held has_no_place held text refused notes
+
+abbrev pub ListsText : Bool → Bool → Option ℕ → List ℕ → Bool → List ℕ → Type 0
+ListsText is_open is_json at text refused notes =
+    (now : ℕ) × IsMoment at now × (held : List ℕ)
+    × ListsOne (record { is_open = is_open; is_json = is_json; now = now }) is_held text_held held
+    text refused notes
+
+-- what a call writes, whether something that was asked for was refused, and what is noted
+abbrev pub IsOutputInCell : Call → Traffic → List ℕ → Bool → List ℕ → Type 0
+IsOutputInCell (New file) input text refused notes =
+    BeginsInCell false [] [] input text refused notes
+IsOutputInCell (Order file at) input text refused notes =
+    DoesStep (IsOrdered at) notes_of_order input text refused notes
+IsOutputInCell (Take file at) input text refused notes =
+    DoesStep (IsHanded at) no_notes input text refused notes
+IsOutputInCell (Show file picture at) input text refused notes =
+    IsUntouched input × ShowsText picture at text refused notes
+IsOutputInCell (Listing file at is_open is_json) input text refused notes =
+    IsUntouched input × ListsText is_open is_json at text refused notes
+IsOutputInCell call input text refused notes = ⊥
+
+-- ---- why nothing is
+
+-- why the bytes begin none: what they are refused for; or nothing is saved
+abbrev pub IsNotBegun : List ℕ → CellFault → Type 0
+IsNotBegun bytes e =
+    ((fault : Fault) × IsNoBeginning Any bytes fault × (e ≡ cell_faults.Call fault))
+    ⊎ ((e ≡ cell_faults.Taken) ⊎ IsUnsaved e)
+
+-- why `new` begins none: something is there already or no answer came, and the input isn't read; or
+-- that isn't, or it begins none; or nothing is saved
+abbrev pub BeginsNone : Traffic → CellFault → Type 0
+BeginsNone input e =
+    (IsUntouched input × ((e ≡ cell_faults.Taken) ⊎ IsUnloaded e))
+    ⊎ (((fault : Fault) × IsUnread input fault × (e ≡ cell_faults.Call fault))
+    ⊎ ((bytes : List ℕ) × IsInput input bytes × IsNotBegun bytes e))
+
+-- why a call gives up. Another call than these is none of cells, where memory doesn't run out
+-- before
+abbrev pub IsFaultInCell : Call → Traffic → CellFault → Type 0
+IsFaultInCell (New file) input e = BeginsNone input e
+IsFaultInCell (Order file at) input e = DoesNone IsNoOrder input e
+IsFaultInCell (Take file at) input e = DoesNone (λ bytes _. IsUndecoded bytes) input e
+IsFaultInCell (Show file picture at) input e = IsUntouched input × IsNotTold at e
+IsFaultInCell (Listing file at is_open is_json) input e = IsUntouched input × IsNotTold at e
+IsFaultInCell call input e =
+    IsUntouched input × ((e ≡ cell_faults.Call (Device NoConnection)) ⊎ (e ≡ out_of_memory))
+
+-- how a call on the controller that etcd keeps ends: with what it writes and notes, or with the
+-- line and the status of why it gives up, with its cause where that is known
+abbrev pub EndsInCell : Call → Traffic → Traffic → Traffic → ℕ → Type 0
+EndsInCell call input output told status =
+    ((text : List ℕ) × (refused : Bool) × (notes : List ℕ)
+    × IsOutputInCell call input text refused notes
+    × GivesOutNoting text refused notes output told status)
+    ⊎ ((e : CellFault) × IsFaultInCell call input e × GivesUpCaused (fault_in e) output told status)

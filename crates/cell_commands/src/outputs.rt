@@ -1,0 +1,192 @@
+//! What the calls on the controller that a cell keeps write.
+
+ghost use Rattle.std.specs.Prelude.{◌≡◌, [], false, IfErr, IfOk};
+ghost use Rattle.jmf_message.specs.Decoded.{IsRefusalOf as IsUndecoded};
+ghost use Rattle.stored_state.specs.AnyStep.{IsHanded, IsNoOrder, IsOrdered, text_of};
+ghost use Rattle.stored_state.specs.Opened.{controller_in};
+ghost use Rattle.streams.specs.Streams.{traffic};
+ghost use Rattle.file_commands.specs.Notes.{no_notes, notes_of_order};
+ghost use Rattle.cell_commands.specs.Calls.{BeginsInCell, BeginsNone, DoesStep};
+ghost use Rattle.cell_commands.specs.Calls.{IsFaultInCell, IsOutputInCell, ListsText, ShowsText};
+ghost use Rattle.cell_commands.specs.Faults.{DoesNone, IsNotTold};
+
+use crate::beginning::new_in_cell;
+use crate::cell_fault::CellFault;
+use crate::look::{list_in_cell, show_in_cell};
+use crate::ordering::order_in_cell;
+use crate::taking::take_in_cell;
+use cells::{Cell, CellKeep};
+use controller_form::StateForm;
+use file_commands::{
+    ListRequest, OrderOutput, OutputWithNotes, moment_of, moment_of_picture, order_noted,
+    step_output,
+};
+use jdf_words::Call;
+use journal::Journal;
+use keepers::Keep;
+use std::alloc::{AllocError, Global};
+use std::io::Read;
+use std::time::Clock;
+use stored_state::AnyKept;
+use streams::{Counted, Fault, Refused};
+
+/// The text of the state of a controller.
+pub(crate) fn text_in<K: Keep>(alloc: Global, opened: &AnyKept<K>) -> Result<Vec<u8>, AllocError>
+    ensures { IfOk result (λ text. text.items ≡ text_of (controller_in opened.now)) }
+{
+    match opened {
+        AnyKept::Master(kept) => kept.controller().state_text(alloc),
+        AnyKept::Worker(kept) => kept.controller().state_text(alloc),
+    }
+}
+
+/// What `new` writes.
+fn new_output<C: Cell, I: Read>(
+    alloc: Global,
+    cell: C,
+    reader: &mut Counted<I>,
+) -> Result<OutputWithNotes, CellFault>
+    ensures ok { IfOk result (λ noted. BeginsInCell false [] []
+        (traffic I.remaining reader.old reader.new)
+        noted.output.text.items noted.output.refused noted.notes.items) }
+    ensures refused { IfErr result (BeginsNone (traffic I.remaining reader.old reader.new)) }
+{
+    let (noted, keep) = new_in_cell(alloc, cell, reader)?;
+    drop(keep);
+    Ok(noted)
+}
+
+/// What `order` writes and notes, once the step is saved.
+fn order_output<C: Cell, I: Read, J: Journal>(
+    alloc: Global,
+    cell: C,
+    at: u64,
+    by: Option<&str>,
+    reader: &mut Counted<I>,
+    journal: &mut J,
+) -> Result<OutputWithNotes, CellFault>
+    ensures ok { IfOk result (λ noted. DoesStep (IsOrdered at) notes_of_order
+        (traffic I.remaining reader.old reader.new)
+        noted.output.text.items noted.output.refused noted.notes.items) }
+    ensures refused { IfErr result
+        (DoesNone IsNoOrder (traffic I.remaining reader.old reader.new)) }
+{
+    let mut keep = CellKeep::over(alloc, cell);
+    let given = order_in_cell(alloc, &mut keep, at, by, reader, journal)?;
+    let OrderOutput {
+        reply,
+        message,
+        notes,
+    } = given;
+    Ok(order_noted(alloc, reply, &message, notes)?)
+}
+
+/// What `take` writes, once the step is saved.
+fn take_output<C: Cell, I: Read, J: Journal>(
+    alloc: Global,
+    cell: C,
+    at: u64,
+    reader: &mut Counted<I>,
+    journal: &mut J,
+) -> Result<OutputWithNotes, CellFault>
+    ensures ok { IfOk result (λ noted. DoesStep (IsHanded at) no_notes
+        (traffic I.remaining reader.old reader.new)
+        noted.output.text.items noted.output.refused noted.notes.items) }
+    ensures refused { IfErr result
+        (DoesNone (λ bytes _. IsUndecoded bytes) (traffic I.remaining reader.old reader.new)) }
+{
+    let mut keep = CellKeep::over(alloc, cell);
+    let given = take_in_cell(alloc, &mut keep, at, reader, journal)?;
+    let output = step_output(alloc, given.reply, &given.answer)?;
+    Ok(OutputWithNotes {
+        output,
+        notes: Vec::new(alloc),
+    })
+}
+
+/// What `show` writes and notes.
+fn show_output<C: Cell, R: Clock>(
+    clock: &R,
+    alloc: Global,
+    cell: C,
+    picture: bool,
+    at: Option<u64>,
+) -> Result<OutputWithNotes, CellFault>
+    ensures ok { IfOk result (λ noted. ShowsText picture at
+        noted.output.text.items noted.output.refused noted.notes.items) }
+    ensures refused { IfErr result (IsNotTold at) }
+{
+    let now = moment_of_picture(clock, picture, at)?;
+    let mut keep = CellKeep::over(alloc, cell);
+    show_in_cell(alloc, &mut keep, picture, now)
+}
+
+/// What `list` writes.
+fn list_output<C: Cell, R: Clock>(
+    clock: &R,
+    alloc: Global,
+    cell: C,
+    is_open: bool,
+    is_json: bool,
+    at: Option<u64>,
+) -> Result<OutputWithNotes, CellFault>
+    ensures ok { IfOk result (λ noted. ListsText is_open is_json at
+        noted.output.text.items noted.output.refused noted.notes.items) }
+    ensures refused { IfErr result (IsNotTold at) }
+{
+    let now = moment_of(clock, at)?;
+    let asked = ListRequest {
+        is_open,
+        is_json,
+        now,
+    };
+    let mut keep = CellKeep::over(alloc, cell);
+    list_in_cell(alloc, &mut keep, asked)
+}
+
+/// What a call on the controller that a cell keeps writes and notes, by this one who types, if that
+/// is known. Another call than `new`, `order`, `take`, `show` and `list` is none of cells: nothing
+/// is read, and it is refused as `NoConnection`.
+pub fn output_in_cell<C: Cell, R: Clock, I: Read, J: Journal>(
+    clock: &R,
+    alloc: Global,
+    cell: C,
+    call: Call<'_>,
+    by: Option<&str>,
+    reader: &mut Counted<I>,
+    journal: &mut J,
+) -> Result<OutputWithNotes, CellFault>
+    // Proved: A call on a cell writes and notes what its command does, at its time, of a controller
+    // whose text the cell gave; or it is told why not.
+    // Not proved: what the cell and the journal hold then; of them `new_in_cell`, `order_in_cell`
+    // and `take_in_cell` tell.
+    ensures ok { IfOk result (λ noted. IsOutputInCell call.entry
+        (traffic I.remaining reader.old reader.new)
+        noted.output.text.items noted.output.refused noted.notes.items) }
+    ensures refused { IfErr result
+        (IsFaultInCell call.entry (traffic I.remaining reader.old reader.new)) }
+{
+    match call {
+        Call::New { .. } => new_output(alloc, cell, reader),
+        Call::Order { at, .. } => order_output(alloc, cell, at, by, reader, journal),
+        Call::Take { at, .. } => take_output(alloc, cell, at, reader, journal),
+        Call::Show { picture, at, .. } => show_output(clock, alloc, cell, picture, at),
+        Call::Listing {
+            at,
+            is_open,
+            is_json,
+            ..
+        } => list_output(clock, alloc, cell, is_open, is_json, at),
+        Call::Edit
+        | Call::World
+        | Call::Loop
+        | Call::SendOrder { .. }
+        | Call::Check { .. }
+        | Call::Explain { .. }
+        | Call::Serve { .. }
+        | Call::Send { .. } => {
+            drop(cell);
+            Err(CellFault::Call(Fault::Device(Refused::NoConnection)))
+        }
+    }
+}

@@ -1,0 +1,5 @@
+pub mod EditCommand
+pub mod CheckCommand
+pub mod ExplainCommand
+pub mod Told
+pub mod Caused

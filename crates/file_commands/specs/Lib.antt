@@ -1,0 +1,12 @@
+pub mod Step
+pub mod Shown
+pub mod Listing
+pub mod Pictured
+pub mod Opening
+pub mod Beginning
+pub mod Notes
+pub mod Answers
+pub mod Commands
+pub mod Journaled
+pub mod Files
+pub mod Calls

@@ -1,7 +1,0 @@
-use Rattle.std.proofs.Common.{append_assoc, rules}
-use Rattle.jdf_commands.specs.CheckCommand.Verdict.{line_of}
-use Rattle.jdf_commands.proofs.check_command.verdict.place_line.Goals as goal
-
-pub returns : goal.returns
-unfolding line_of
-returns c = simp append_assoc (search rules)

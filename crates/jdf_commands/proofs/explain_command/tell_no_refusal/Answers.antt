@@ -1,4 +1,0 @@
-use Rattle.jdf_commands.proofs.explain_command.tell_no_refusal.Goals as goal
-
-pub returns-clause-errors : goal.returns-clause-errors
-returns-clause-errors g c = c.tell_text.ensures

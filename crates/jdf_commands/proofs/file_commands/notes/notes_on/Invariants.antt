@@ -1,7 +1,0 @@
-use Rattle.std.proofs.Common.{[]}
-use Rattle.job_picture.proofs.Lines.{IsSoFar}
-use Rattle.jdf_commands.specs.FileCommands.Notes.{notes_on}
-use Rattle.jdf_commands.proofs.file_commands.notes.notes_on.Given as goal
-
-abbrev pub invariant-loop-entry : goal.invariant-loop-entry
-invariant-loop-entry l = IsSoFar notes_on l.entries l.entry-index [] l.notes.items

@@ -1,6 +1,0 @@
-use Rattle.job_picture.proofs.Lines.{IsSoFar}
-use Rattle.jdf_commands.specs.FileCommands.Shown.{entry_lines}
-use Rattle.jdf_commands.proofs.file_commands.shown.push_entries.Given as goal
-
-abbrev pub invariant-loop-entry : goal.invariant-loop-entry
-invariant-loop-entry l = IsSoFar entry_lines l.entries l.entry-index l.fn.text.items l.text.items

@@ -1,5 +1,0 @@
-use Rattle.stored_state.specs.Opened.{kept_of}
-use Rattle.jdf_commands.proofs.file_commands.taking.take_given.Goals as goal
-
-pub returns-clause-journal : goal.returns-clause-journal
-returns-clause-journal g c = λ honest. (kept_of c.in_ok-given.opened, c.in_ok-given.ensures.ok, c.in_ok-given.ensures.journal honest)

@@ -1,7 +1,0 @@
-use Rattle.std.proofs.Common.{◌≡◌, map, take}
-use Rattle.jdf_server.specs.Journaled.{called_of_coming, step_of_call}
-use Rattle.rounds.specs.Line.{coming_in}
-use Rattle.jdf_server.proofs.journaling.calls_of_errands.Given as goal
-
-abbrev pub invariant-loop-errand : goal.invariant-loop-errand
-invariant-loop-errand g l = map step_of_call l.calls.items ≡ map (λ e. called_of_coming (coming_in e)) (take l.errand-index l.errands)

@@ -1,6 +1,0 @@
-use Rattle.jdf_server.specs.Lines.{IsParted, is_gone}
-use Rattle.jdf_server.proofs.lines.gone_and_there.Given as goal
-
--- those so far
-abbrev pub invariant-loop-one : goal.invariant-loop-one
-invariant-loop-one l = IsParted (is_gone l.clients) l.yielded l.there.items l.gone.items

@@ -1,0 +1,5 @@
+mod AtPath
+mod JournalLines
+mod ListedFiles
+mod NamedFiles
+mod OtherNames

@@ -1,0 +1,10 @@
+mod Numbers
+mod Asked
+mod Stops
+mod Days
+mod OneTicket
+mod Made
+mod Commands
+mod Failing
+mod Rounds
+mod FailedRounds
