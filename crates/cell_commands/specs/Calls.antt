@@ -2,14 +2,13 @@
 -- socket holds: what was read is some text.
 use Rattle.std.specs.Prelude.{◌≡◌, ◌⊎◌, ℕ, Bool, true, false, List, [], ◌∷◌, Option, Result}
 use Rattle.ticket_items.specs.declared.refusal.Refusal.{Refusal}
-use Rattle.jdf_words.specs.declared.call.Call.{Call}
-use Rattle.jdf_words.specs.declared.call.Call.TheVariants.{New, Order, Take, Show, Listing}
+use Rattle.jdf_words.specs.declared.kept_call.KeptCall.{KeptCall}
+use Rattle.jdf_words.specs.declared.kept_call.KeptCall.TheVariants.{List as Listing, New, Order}
+use Rattle.jdf_words.specs.declared.kept_call.KeptCall.TheVariants.{Show, Take}
 use Rattle.jmf_message.specs.Decoded.{IsRefusalOf as IsUndecoded}
 use Rattle.streams.specs.Ends.{IsUnread}
 use Rattle.streams.specs.Streams.{IsInput, IsUntouched, Traffic}
-use Rattle.streams.specs.declared.refused.Refused.TheVariants.{NoConnection}
 use Rattle.streams.specs.declared.fault.Fault.{Fault}
-use Rattle.streams.specs.declared.fault.Fault.TheVariants.{Device}
 use Rattle.cells.specs.Chain.{Version, newest}
 use Rattle.cells.specs.Kept.{IsPartOf}
 use Rattle.stored_state.specs.AnyStep.{IsHanded, IsNoOrder, IsOrdered, text_of}
@@ -23,7 +22,6 @@ use Rattle.file_commands.specs.Listing.{ListsOne}
 use Rattle.file_commands.specs.Notes.{GivesOutNoting, no_notes, notes_of_order}
 use Rattle.file_commands.specs.Step.{is_refused, step_lines}
 use Rattle.cell_commands.specs.Faults.{DoesNone, IsNotTold, IsUnloaded, IsUnsaved, fault_in}
-use Rattle.cell_commands.specs.Faults.{out_of_memory}
 use Rattle.cell_commands.specs.Given.{GivesStep}
 use Rattle.cell_commands.specs.declared.cell_fault.CellFault.{CellFault}
 use Rattle.cell_commands.specs.declared.cell_fault.CellFault.TheVariants as cell_faults
@@ -85,18 +83,17 @@ ListsText is_open is_json at text refused notes =
     text refused notes
 
 -- what a call writes, whether something that was asked for was refused, and what is noted
-abbrev pub IsOutputInCell : Call → Traffic → List ℕ → Bool → List ℕ → Type 0
-IsOutputInCell (New file) input text refused notes =
+abbrev pub IsOutputInCell : KeptCall → Traffic → List ℕ → Bool → List ℕ → Type 0
+IsOutputInCell New input text refused notes =
     BeginsInCell false [] [] input text refused notes
-IsOutputInCell (Order file at) input text refused notes =
+IsOutputInCell (Order at) input text refused notes =
     DoesStep (IsOrdered at) notes_of_order input text refused notes
-IsOutputInCell (Take file at) input text refused notes =
+IsOutputInCell (Take at) input text refused notes =
     DoesStep (IsHanded at) no_notes input text refused notes
-IsOutputInCell (Show file picture at) input text refused notes =
+IsOutputInCell (Show picture at) input text refused notes =
     IsUntouched input × ShowsText picture at text refused notes
-IsOutputInCell (Listing file at is_open is_json) input text refused notes =
+IsOutputInCell (Listing at is_open is_json) input text refused notes =
     IsUntouched input × ListsText is_open is_json at text refused notes
-IsOutputInCell call input text refused notes = ⊥
 
 -- ---- why nothing is
 
@@ -114,20 +111,17 @@ BeginsNone input e =
     ⊎ (((fault : Fault) × IsUnread input fault × (e ≡ cell_faults.Call fault))
     ⊎ ((bytes : List ℕ) × IsInput input bytes × IsNotBegun bytes e))
 
--- why a call gives up. Another call than these is none of cells, where memory doesn't run out
--- before
-abbrev pub IsFaultInCell : Call → Traffic → CellFault → Type 0
-IsFaultInCell (New file) input e = BeginsNone input e
-IsFaultInCell (Order file at) input e = DoesNone IsNoOrder input e
-IsFaultInCell (Take file at) input e = DoesNone (λ bytes _. IsUndecoded bytes) input e
-IsFaultInCell (Show file picture at) input e = IsUntouched input × IsNotTold at e
-IsFaultInCell (Listing file at is_open is_json) input e = IsUntouched input × IsNotTold at e
-IsFaultInCell call input e =
-    IsUntouched input × ((e ≡ cell_faults.Call (Device NoConnection)) ⊎ (e ≡ out_of_memory))
+-- why a call gives up
+abbrev pub IsFaultInCell : KeptCall → Traffic → CellFault → Type 0
+IsFaultInCell New input e = BeginsNone input e
+IsFaultInCell (Order at) input e = DoesNone IsNoOrder input e
+IsFaultInCell (Take at) input e = DoesNone (λ bytes _. IsUndecoded bytes) input e
+IsFaultInCell (Show picture at) input e = IsUntouched input × IsNotTold at e
+IsFaultInCell (Listing at is_open is_json) input e = IsUntouched input × IsNotTold at e
 
 -- how a call on the controller that etcd keeps ends: with what it writes and notes, or with the
 -- line and the status of why it gives up, with its cause where that is known
-abbrev pub EndsInCell : Call → Traffic → Traffic → Traffic → ℕ → Type 0
+abbrev pub EndsInCell : KeptCall → Traffic → Traffic → Traffic → ℕ → Type 0
 EndsInCell call input output told status =
     ((text : List ℕ) × (refused : Bool) × (notes : List ℕ)
     × IsOutputInCell call input text refused notes

@@ -21,14 +21,14 @@ use file_commands::{
     ListRequest, OrderOutput, OutputWithNotes, moment_of, moment_of_picture, order_noted,
     step_output,
 };
-use jdf_words::Call;
+use jdf_words::KeptCall;
 use journal::Journal;
 use keepers::Keep;
 use std::alloc::{AllocError, Global};
 use std::io::Read;
 use std::time::Clock;
 use stored_state::AnyKept;
-use streams::{Counted, Fault, Refused};
+use streams::Counted;
 
 /// The text of the state of a controller.
 pub(crate) fn text_in<K: Keep>(alloc: Global, opened: &AnyKept<K>) -> Result<Vec<u8>, AllocError>
@@ -145,13 +145,12 @@ fn list_output<C: Cell, R: Clock>(
 }
 
 /// What a call on the controller that a cell keeps writes and notes, by this one who types, if that
-/// is known. Another call than `new`, `order`, `take`, `show` and `list` is none of cells: nothing
-/// is read, and it is refused as `NoConnection`.
+/// is known.
 pub fn output_in_cell<C: Cell, R: Clock, I: Read, J: Journal>(
     clock: &R,
     alloc: Global,
     cell: C,
-    call: Call<'_>,
+    call: KeptCall,
     by: Option<&str>,
     reader: &mut Counted<I>,
     journal: &mut J,
@@ -160,33 +159,21 @@ pub fn output_in_cell<C: Cell, R: Clock, I: Read, J: Journal>(
     // whose text the cell gave; or it is told why not.
     // Not proved: what the cell and the journal hold then; of them `new_in_cell`, `order_in_cell`
     // and `take_in_cell` tell.
-    ensures ok { IfOk result (λ noted. IsOutputInCell call.entry
+    ensures ok { IfOk result (λ noted. IsOutputInCell call
         (traffic I.remaining reader.old reader.new)
         noted.output.text.items noted.output.refused noted.notes.items) }
     ensures refused { IfErr result
-        (IsFaultInCell call.entry (traffic I.remaining reader.old reader.new)) }
+        (IsFaultInCell call (traffic I.remaining reader.old reader.new)) }
 {
     match call {
-        Call::New { .. } => new_output(alloc, cell, reader),
-        Call::Order { at, .. } => order_output(alloc, cell, at, by, reader, journal),
-        Call::Take { at, .. } => take_output(alloc, cell, at, reader, journal),
-        Call::Show { picture, at, .. } => show_output(clock, alloc, cell, picture, at),
-        Call::Listing {
+        KeptCall::New => new_output(alloc, cell, reader),
+        KeptCall::Order { at } => order_output(alloc, cell, at, by, reader, journal),
+        KeptCall::Take { at } => take_output(alloc, cell, at, reader, journal),
+        KeptCall::Show { picture, at } => show_output(clock, alloc, cell, picture, at),
+        KeptCall::List {
             at,
             is_open,
             is_json,
-            ..
         } => list_output(clock, alloc, cell, is_open, is_json, at),
-        Call::Edit
-        | Call::World
-        | Call::Loop
-        | Call::SendOrder { .. }
-        | Call::Check { .. }
-        | Call::Explain { .. }
-        | Call::Serve { .. }
-        | Call::Send { .. } => {
-            drop(cell);
-            Err(CellFault::Call(Fault::Device(Refused::NoConnection)))
-        }
     }
 }

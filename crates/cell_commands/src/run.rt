@@ -11,7 +11,7 @@ use cells::Cell;
 use document_commands::{CausedFault, give_up_caused};
 use etcd_place::EtcdPlace;
 use file_commands::{OutputWithNotes, finish_noting, typist};
-use jdf_words::Call;
+use jdf_words::KeptCall;
 use journal::Journal;
 use keepers::{KeepFault, Locks};
 use std::alloc::{AllocError, Global};
@@ -98,15 +98,15 @@ fn output_at<R: Locks + Net + Clock, I: Read, J: Journal>(
     rt: &R,
     alloc: Global,
     place: EtcdPlace<'_>,
-    call: Call<'_>,
+    call: KeptCall,
     reader: &mut Counted<I>,
     journal: &mut J,
 ) -> Result<OutputWithNotes, CellFault>
-    ensures ok { IfOk result (λ noted. IsOutputInCell call.entry
+    ensures ok { IfOk result (λ noted. IsOutputInCell call
         (traffic I.remaining reader.old reader.new)
         noted.output.text.items noted.output.refused noted.notes.items) }
     ensures refused { IfErr result
-        (IsFaultInCell call.entry (traffic I.remaining reader.old reader.new)) }
+        (IsFaultInCell call (traffic I.remaining reader.old reader.new)) }
 {
     let by = typist(rt, alloc, journal);
     let cell = match place.cell(rt, alloc, Duration::from_secs(EXCHANGE_SECONDS)) {
@@ -124,7 +124,7 @@ pub fn run_in_cell<R: Locks + Net + Clock, I: Read, W: Write, F: Write, J: Journ
     rt: &R,
     alloc: Global,
     place: EtcdPlace<'_>,
-    call: &Call<'_>,
+    call: KeptCall,
     reader: &mut Counted<I>,
     writer: &mut Counted<W>,
     faults: &mut Counted<F>,
@@ -136,11 +136,11 @@ pub fn run_in_cell<R: Locks + Net + Clock, I: Read, W: Write, F: Write, J: Journ
     // By `refuse_place`.
     // Not proved: what stands behind the refusal of a load or a save, that what etcd gave was held,
     // and what is saved there and journaled.
-    ensures { EndsInCell call.now (traffic I.remaining reader.old reader.new)
+    ensures { EndsInCell call (traffic I.remaining reader.old reader.new)
         (traffic W.contents writer.old writer.new)
         (traffic F.contents faults.old faults.new) result }
 {
-    match output_at(rt, alloc, place, *call, reader, journal) {
+    match output_at(rt, alloc, place, call, reader, journal) {
         Ok(noted) => finish_noting(Ok(noted), writer, faults),
         Err(fault) => give_up_caused(alloc, caused_by(rt, alloc, place, &fault), faults),
     }

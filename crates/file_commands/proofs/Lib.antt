@@ -1,3 +1,4 @@
 pub mod Commands
 pub mod ListedFiles
+mod Told
 mod Journaled

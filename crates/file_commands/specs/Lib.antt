@@ -10,3 +10,4 @@ pub mod Commands
 pub mod Journaled
 pub mod Files
 pub mod Calls
+pub mod Ends

@@ -131,7 +131,7 @@ fn new_output<K: Keep, I: Read>(
 }
 
 /// The same, where nothing is noted and the keeper is let go.
-pub fn new_noted<K: Keep, I: Read>(
+pub(crate) fn new_noted<K: Keep, I: Read>(
     alloc: Global,
     keep: K,
     is_there: bool,

@@ -121,8 +121,8 @@ fn list_at<R: Locks + Alloc + Clone + Drop>(
     }
 }
 
-/// What `list` writes of a path. Refuses as `run_file` of `jdf_commands` says of `list`.
-pub fn list_output<R: Locks + Clock + Alloc + Clone + Drop>(
+/// What `list` writes of a path. Refuses as `run_file` says of `list`.
+pub(crate) fn list_output<R: Locks + Clock + Alloc + Clone + Drop>(
     rt: &R,
     alloc: Global,
     path: &str,

@@ -178,9 +178,9 @@ fn text_of(text: &Option<String>) -> Option<&str> {
 /// What an order to the controller in a file gives out, once its step is saved, and what is noted
 /// of it. The file is looked at first, and where it holds no controller nothing is read. While the
 /// input is read the file isn't locked: a step that somebody else makes meanwhile comes before this
-/// one. It isn't locked any more once this is given out. Refuses as `run_file` of `jdf_commands`
-/// says of `order`. Behind the save, and while the file is locked, the line of the step is appended
-/// to the journal, unless the controller refused the order.
+/// one. It isn't locked any more once this is given out. Refuses as `run_file` says of `order`.
+/// Behind the save, and while the file is locked, the line of the step is appended to the journal,
+/// unless the controller refused the order.
 pub fn order_in_file<R: Locks, I: Read, J: Journal>(
     rt: &R,
     alloc: Global,
@@ -246,7 +246,7 @@ pub fn order_noted(
 }
 
 /// What `order` writes and notes, once the step is saved.
-pub fn order_output<R: Locks, I: Read, J: Journal>(
+pub(crate) fn order_output<R: Locks, I: Read, J: Journal>(
     rt: &R,
     alloc: Global,
     file: &str,

@@ -179,9 +179,8 @@ pub fn moment_of_picture<R: Clock>(clock: &R, picture: bool, at: Option<u64>) ->
     }
 }
 
-/// What `show` writes of the controller in a file. Refuses as `run_file` of `jdf_commands` says of
-/// `show`.
-pub fn show_output<R: Locks + Clock>(
+/// What `show` writes of the controller in a file. Refuses as `run_file` says of `show`.
+pub(crate) fn show_output<R: Locks + Clock>(
     rt: &R,
     alloc: Global,
     file: &str,

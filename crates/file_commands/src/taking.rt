@@ -94,9 +94,9 @@ fn take_given<K: Keep, J: Journal>(
 
 /// What a message to the controller in a file gives out, once its step is saved; the file isn't
 /// locked any more then. Of a file that holds the text of the snapshot still, if there is one, that
-/// isn't read once more. Refuses as `run_file` of `jdf_commands` says of `take` whose input is
-/// read. Behind the save, and while the file is locked, the line of the step is appended to the
-/// journal, unless the controller refused the message.
+/// isn't read once more. Refuses as `run_file` says of `take` whose input is read. Behind the save,
+/// and while the file is locked, the line of the step is appended to the journal, unless the
+/// controller refused the message.
 pub fn take_in_file<R: Locks, J: Journal>(
     rt: &R,
     alloc: Global,
@@ -160,7 +160,7 @@ fn take_input<R: Locks, I: Read, J: Journal>(
 }
 
 /// What `take` writes, once the step is saved.
-pub fn take_output<R: Locks, I: Read, J: Journal>(
+pub(crate) fn take_output<R: Locks, I: Read, J: Journal>(
     rt: &R,
     alloc: Global,
     file: &str,

@@ -1,2 +1,1 @@
 pub mod Names
-mod NotedCalls

@@ -1,9 +1,9 @@
-//! The calls of the program that need no network, over readers and writers: `world`, and any call
-//! of the command line, by the commands on documents and on files.
+//! The calls of the program of a document, over readers and writers: `world`, and any other, by the
+//! commands on documents.
 #![tactic(auto)]
 
 mod run;
 mod world_command;
 
-pub use run::{call_output, run_file};
+pub use run::run_document;
 pub use world_command::{push_line, run_world};

@@ -4,5 +4,5 @@
 mod command;
 mod world_output;
 
-pub use command::{WorldCommand, run_world};
+pub use command::run_world;
 pub use world_output::push_line;

@@ -13,13 +13,17 @@ use Rattle.streams.specs.Streams.{IsUntouched, Stream, Traffic}
 use Rattle.jdf_words.specs.Calls.{IsEdit, IsInvocation, is_asked}
 use Rattle.jdf_words.specs.Commands.{jdf}
 use Rattle.jdf_words.specs.declared.call.Call.{Call}
-use Rattle.jdf_words.specs.declared.call.Call.TheVariants.{Loop, New, Order, Take, Show, Listing}
-use Rattle.jdf_words.specs.declared.call.Call.TheVariants.{Send, SendOrder, Serve}
+use Rattle.jdf_words.specs.declared.call.Call.TheVariants.{Document, Kept, Network}
 use Rattle.jdf_words.specs.declared.invocation.Invocation.{Invocation}
+use Rattle.jdf_words.specs.declared.kept_call.KeptCall.{KeptCall}
+use Rattle.jdf_words.specs.declared.network_call.NetworkCall.{NetworkCall}
+use Rattle.jdf_words.specs.declared.network_call.NetworkCall.TheVariants.{Loop, Send, SendOrder}
+use Rattle.jdf_words.specs.declared.network_call.NetworkCall.TheVariants.{Serve}
 use Rattle.cell_commands.specs.Calls.{EndsInCell}
 use Rattle.etcd_place.specs.Place.{etcd_place_in, is_etcd}
-use Rattle.jdf_commands.specs.Calls.{EndsCall}
+use Rattle.jdf_commands.specs.Calls.{EndsDocument}
 use Rattle.document_commands.specs.Caused.{GivesUpCaused}
+use Rattle.file_commands.specs.Ends.{EndsInFile}
 use Rattle.jdf_loop.specs.Run.{EndsLoop}
 use Rattle.jdf_send.specs.InputFile.{file_of}
 use Rattle.jdf_send.specs.OrderCommand.{EndsSendOrder}
@@ -27,52 +31,49 @@ use Rattle.jdf_send.specs.SendCommand.{EndsSend}
 use Rattle.jdf_net.specs.ServeCommand.{EndsServe}
 use Rattle.jdf_net.specs.declared.words.TheConstants.{NO_CALL}
 
--- ---- FILE of a call
-
--- the text of FILE, and none where there is none
-abbrev pub file_text : Call → List ℕ
-file_text (New file) = file.now
-file_text (Order file at) = file.now
-file_text (SendOrder file at url) = file.now
-file_text (Take file at) = file.now
-file_text (Show file picture at) = file.now
-file_text (Listing file at is_open is_json) = file.now
-file_text call = []
+-- ---- calls on a controller that is kept
 
 -- it is to be a place in etcd, and is none: nothing is read or written, and there is no call
 abbrev pub EndsNowhere : Traffic → Traffic → ℕ → Type 0
 EndsNowhere input output status = IsUntouched input × IsUntouched output × (status ≡ NO_CALL)
 
--- a call on a controller ends as in its cell, where FILE is a place in etcd
-abbrev pub EndsInEtcd : Bool → Call → Traffic → Traffic → Traffic → ℕ → Type 0
+-- a call ends as in its cell, where FILE is a place in etcd
+abbrev pub EndsInEtcd : Bool → KeptCall → Traffic → Traffic → Traffic → ℕ → Type 0
 EndsInEtcd true call input output told status = EndsInCell call input output told status
 EndsInEtcd false call input output told status = EndsNowhere input output status
 
--- how a call that isn't over the network ends: in etcd where FILE begins with `etcd://`, else over
--- files
-abbrev pub EndsLocal : Bool → Call → Traffic → Traffic → Traffic → ℕ → Type 0
-EndsLocal true call input output told status =
-    EndsInEtcd (is_some (etcd_place_in (file_text call))) call input output told status
-EndsLocal false call input output told status = EndsCall call input output told status
+-- how it ends: in etcd where FILE begins with `etcd://`, else in the file
+abbrev pub EndsKept : Bool → List ℕ → KeptCall → Traffic → Traffic → Traffic → ℕ → Type 0
+EndsKept true file call input output told status =
+    EndsInEtcd (is_some (etcd_place_in file)) call input output told status
+EndsKept false file call input output told status = EndsInFile file call input output told status
 
--- and an order whose message is sent: of a controller in etcd that isn't done
+-- ---- calls over the network
+
+-- an order whose message is sent: of a controller in etcd that isn't done
 abbrev pub EndsSending : Bool → Bor (List ℕ) → ℕ → List ℕ → Traffic → Traffic → Traffic → ℕ
     → Type 0
 EndsSending true file at url input output told status = EndsNowhere input output status
 EndsSending false file at url input output told status =
     EndsSendOrder file at url input output told status
 
+-- how a call over the network ends
+abbrev pub EndsNetwork : NetworkCall → Traffic → Traffic → Traffic → ℕ → Type 0
+EndsNetwork Loop input output told status = EndsLoop input output told status
+EndsNetwork (SendOrder file at url) input output told status =
+    EndsSending (is_etcd file.now) file at url.now input output told status
+EndsNetwork (Serve file listen limits requests peers field) input output told status =
+    EndsServe status
+EndsNetwork (Send url file) input output told status = EndsSend input output told status
+
 -- ---- calls
 
--- how a call ends, over the network or not
+-- how a call ends
 abbrev pub EndsAnyCall : Call → Traffic → Traffic → Traffic → ℕ → Type 0
-EndsAnyCall Loop input output told status = EndsLoop input output told status
-EndsAnyCall (SendOrder file at url) input output told status =
-    EndsSending (is_etcd file.now) file at url.now input output told status
-EndsAnyCall (Serve file listen limits requests peers field) input output told status = EndsServe status
-EndsAnyCall (Send url file) input output told status = EndsSend input output told status
-EndsAnyCall call input output told status =
-    EndsLocal (is_etcd (file_text call)) call input output told status
+EndsAnyCall (Document call) input output told status = EndsDocument call input output told status
+EndsAnyCall (Kept file call) input output told status =
+    EndsKept (is_etcd file.now) file.now call input output told status
+EndsAnyCall (Network call) input output told status = EndsNetwork call input output told status
 
 -- a call ends so, and behind all that it tells something may be told
 abbrev pub EndsTelling : Call → Traffic → Traffic → Traffic → ℕ → Type 0

@@ -9,8 +9,7 @@ ghost use Rattle.jdf_words.specs.Calls as calls;
 ghost use Rattle.jdf_send.specs.InputFile.{file_of as file_in};
 ghost use Rattle.jdf_net.specs.Words.{EndsAnswer, EndsAnyCall, EndsFrom};
 ghost use Rattle.jdf_net.specs.Words.{EndsFromFile, EndsJournaled};
-ghost use Rattle.jdf_net.specs.Words.{EndsLocal, EndsWithJournal, EndsWords};
-ghost use Rattle.jdf_net.specs.Words as net;
+ghost use Rattle.jdf_net.specs.Words.{EndsKept, EndsNetwork, EndsWithJournal, EndsWords};
 ghost use Rattle.etcd_place.specs.Place.{is_etcd as is_etcd_text};
 ghost use Rattle.streams.specs.Streams.{traffic};
 
@@ -18,11 +17,12 @@ use crate::serve_command::run_serve;
 use cell_commands::{refuse_place, run_in_cell};
 use document_commands::{CausedFault, give_up_caused};
 use etcd_place::{EtcdPlace, is_etcd};
-use jdf_commands::run_file;
+use file_commands::run_file;
+use jdf_commands::run_document;
 use jdf_loop::run_loop;
 use jdf_send::{SendOrder, file_of, open_input, run_send, run_send_order};
 use jdf_server::Service;
-use jdf_words::{Call, CallFault, Invocation, command_of, is_asked};
+use jdf_words::{Call, CallFault, Invocation, KeptCall, NetworkCall, command_of, is_asked};
 use journal::FileJournal;
 use keepers::Locks;
 use std::alloc::{Alloc, AllocError, Global};
@@ -75,40 +75,25 @@ fn answer_words<W: Write, F: Write>(
     }
 }
 
-/// FILE of a call on a controller, and no text where it has none.
-fn file_text<'a>(call: &Call<'a>) -> &'a str
-    ensures { result.now ≡ net.file_text call.now }
-{
-    match call {
-        Call::New { file } => file,
-        Call::Order { file, .. } => file,
-        Call::SendOrder { file, .. } => file,
-        Call::Take { file, .. } => file,
-        Call::Show { file, .. } => file,
-        Call::Listing { file, .. } => file,
-        _ => "",
-    }
-}
-
-/// Runs a call that isn't over the network: where FILE begins with `etcd://`, on the controller
-/// that etcd keeps there, and where it names no place, none.
-fn run_local<R: Locks + Net + Clock + Alloc + Clone + Drop, I: Read, W: Write, F: Write>(
+/// Runs a call on the controller that is kept in a file, or where FILE begins with `etcd://`, on
+/// the one that etcd keeps there; and where that names no place, none.
+fn run_kept<R: Locks + Net + Clock + Alloc + Clone + Drop, I: Read, W: Write, F: Write>(
     rt: &R,
     alloc: Global,
-    call: &Call<'_>,
+    file: &str,
+    call: KeptCall,
     reader: &mut Counted<I>,
     writer: &mut Counted<W>,
     faults: &mut Counted<F>,
     journal: &mut FileJournal<'_, R>,
 ) -> u8
-    ensures { EndsLocal (is_etcd_text (net.file_text call.now)) call.now
+    ensures { EndsKept (is_etcd_text file.now) file.now call
         (traffic I.remaining reader.old reader.new)
         (traffic W.contents writer.old writer.new)
         (traffic F.contents faults.old faults.new) result }
 {
-    let file = file_text(call);
     if !is_etcd(file) {
-        return run_file(rt, alloc, call, reader, writer, faults, journal);
+        return run_file(rt, alloc, file, call, reader, writer, faults, journal);
     }
     match EtcdPlace::of(file) {
         Some(place) => run_in_cell(rt, alloc, place, call, reader, writer, faults, journal),
@@ -128,31 +113,31 @@ fn refuse_sending<F: Write>(file: &str, faults: &mut Counted<F>) -> u8
     NO_CALL
 }
 
-/// Runs a call, over the network or over files; `serve` with the journal and the page that are
-/// named beside it.
-fn run_call<R: Locks + Net + Clock + Alloc + Clone + Drop, I: Read, W: Write, F: Write>(
+/// Runs a call over the network; `serve` with the journal and the page that are named beside it.
+fn run_network<R: Locks + Net + Clock + Alloc + Clone + Drop, I: Read, W: Write, F: Write>(
     rt: &R,
     alloc: Global,
     asked: &Invocation<'_>,
+    call: &NetworkCall<'_>,
     reader: &mut Counted<I>,
     writer: &mut Counted<W>,
     faults: &mut Counted<F>,
     journal: &mut FileJournal<'_, R>,
 ) -> u8
-    ensures { EndsAnyCall asked.now.call (traffic I.remaining reader.old reader.new)
+    ensures { EndsNetwork call.now (traffic I.remaining reader.old reader.new)
         (traffic W.contents writer.old writer.new)
         (traffic F.contents faults.old faults.new) result }
 {
-    match &asked.call {
-        Call::Loop => run_loop(rt, alloc, reader, writer, faults),
-        Call::SendOrder { file, at, url } => {
+    match call {
+        NetworkCall::Loop => run_loop(rt, alloc, reader, writer, faults),
+        NetworkCall::SendOrder { file, at, url } => {
             if is_etcd(file) {
                 return refuse_sending(file, faults);
             }
             let order = SendOrder { file, at: *at, url };
             run_send_order(rt, alloc, &order, reader, writer, faults, journal)
         }
-        Call::Serve {
+        NetworkCall::Serve {
             file,
             listen,
             limits,
@@ -173,8 +158,34 @@ fn run_call<R: Locks + Net + Clock + Alloc + Clone + Drop, I: Read, W: Write, F:
             };
             run_serve(rt, alloc, &service, writer, faults)
         }
-        Call::Send { url, file } => run_send(rt, alloc, url, *file, reader, writer, faults),
-        _ => run_local(rt, alloc, &asked.call, reader, writer, faults, journal),
+        NetworkCall::Send { url, file } => {
+            run_send(rt, alloc, url, *file, reader, writer, faults)
+        }
+    }
+}
+
+/// Runs a call: of a document, on a controller that is kept, or over the network.
+fn run_call<R: Locks + Net + Clock + Alloc + Clone + Drop, I: Read, W: Write, F: Write>(
+    rt: &R,
+    alloc: Global,
+    asked: &Invocation<'_>,
+    reader: &mut Counted<I>,
+    writer: &mut Counted<W>,
+    faults: &mut Counted<F>,
+    journal: &mut FileJournal<'_, R>,
+) -> u8
+    ensures { EndsAnyCall asked.now.call (traffic I.remaining reader.old reader.new)
+        (traffic W.contents writer.old writer.new)
+        (traffic F.contents faults.old faults.new) result }
+{
+    match &asked.call {
+        Call::Document(call) => run_document(alloc, call, reader, writer, faults),
+        Call::Kept { file, call } => {
+            run_kept(rt, alloc, file, *call, reader, writer, faults, journal)
+        }
+        Call::Network(call) => {
+            run_network(rt, alloc, asked, call, reader, writer, faults, journal)
+        }
     }
 }
 

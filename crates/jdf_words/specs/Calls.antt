@@ -13,12 +13,19 @@ use Rattle.clap.specs.declared.error.kind.ErrorKind.{ErrorKind}
 use Rattle.clap.specs.declared.error.kind.ErrorKind.TheVariants.{DisplayHelp, DisplayVersion}
 use Rattle.clap.specs.declared.error.kind.ErrorKind.TheVariants.{OutOfMemory}
 use Rattle.jdf_words.specs.declared.call.Call.{Call}
-use Rattle.jdf_words.specs.declared.call.Call.TheVariants.{Edit, World, Loop}
-use Rattle.jdf_words.specs.declared.call.Call.TheVariants.{New, Order, Take, Show, Serve, Send}
-use Rattle.jdf_words.specs.declared.call.Call.TheVariants.{Check, Explain, SendOrder, Listing}
+use Rattle.jdf_words.specs.declared.call.Call.TheVariants.{Document, Kept, Network}
 use Rattle.jdf_words.specs.declared.call_fault.CallFault.{CallFault}
 use Rattle.jdf_words.specs.declared.call_fault.CallFault.TheVariants.{Clap, Memory}
+use Rattle.jdf_words.specs.declared.document_call.DocumentCall.{DocumentCall}
+use Rattle.jdf_words.specs.declared.document_call.DocumentCall.TheVariants.{Check, Edit}
+use Rattle.jdf_words.specs.declared.document_call.DocumentCall.TheVariants.{Explain, World}
 use Rattle.jdf_words.specs.declared.invocation.Invocation.{Invocation}
+use Rattle.jdf_words.specs.declared.kept_call.KeptCall.{KeptCall}
+use Rattle.jdf_words.specs.declared.kept_call.KeptCall.TheVariants.{List as Listing, New, Order}
+use Rattle.jdf_words.specs.declared.kept_call.KeptCall.TheVariants.{Show, Take}
+use Rattle.jdf_words.specs.declared.network_call.NetworkCall.{NetworkCall}
+use Rattle.jdf_words.specs.declared.network_call.NetworkCall.TheVariants.{Loop, Send, SendOrder}
+use Rattle.jdf_words.specs.declared.network_call.NetworkCall.TheVariants.{Serve}
 use Rattle.jdf_words.specs.declared.serve_limits.ServeLimits.{ServeLimits}
 
 -- the name of the command that was found
@@ -149,32 +156,43 @@ pub record IsCall (found : Text × List Row) : Type 0 where
   pub url : bytes_eq found.0 (codes "send") ≡ true → HasText (codes "URL") found.1
   pub number : bytes_eq found.0 (codes "explain") ≡ true → HasText (codes "N") found.1
 
--- the call is what was found: the name of the command and its arguments
-abbrev pub Means : Call → Option (Text × List Row) → Type 0
-Means Edit found = name_in found ≡ Some (codes "edit")
-Means World found = name_in found ≡ Some (codes "world")
-Means Loop found = name_in found ≡ Some (codes "loop")
-Means (New file) found =
-    (name_in found ≡ Some (codes "new")) × (file_in found ≡ Some file.now)
-Means (Order file at) found =
-    IsTimed (codes "order") file.now at found × (text_in (codes "send") found ≡ None)
-Means (SendOrder file at url) found =
-    IsTimed (codes "order") file.now at found × (text_in (codes "send") found ≡ Some url.now)
-Means (Take file at) found = IsTimed (codes "take") file.now at found
-Means (Show file picture at) found =
-    IsSeen (codes "show") file.now at found × (picture ≡ is_set_in (codes "picture") found)
-Means (Check kind all) found = (name_in found ≡ Some (codes "check"))
+-- the call of a document is what was found: the name of the command and its arguments
+abbrev pub MeansDocument : DocumentCall → Option (Text × List Row) → Type 0
+MeansDocument Edit found = name_in found ≡ Some (codes "edit")
+MeansDocument World found = name_in found ≡ Some (codes "world")
+MeansDocument (Check kind all) found = (name_in found ≡ Some (codes "check"))
     × (text_in (codes "KIND") found ≡ option_map (λ word. word.now) kind)
     × (all ≡ is_set_in (codes "all") found)
-Means (Listing file at is_open is_json) found =
-    IsSeen (codes "list") file.now at found × (is_open ≡ is_set_in (codes "open") found)
-    × (is_json ≡ is_set_in (codes "json") found)
-Means (Explain number) found = (name_in found ≡ Some (codes "explain"))
+MeansDocument (Explain number) found = (name_in found ≡ Some (codes "explain"))
     × (text_in (codes "N") found ≡ Some number.now)
-Means (Serve file listen limits requests peers field) found =
+
+-- so is that of the controller that is kept in this FILE
+abbrev pub MeansKept : Text → KeptCall → Option (Text × List Row) → Type 0
+MeansKept file New found = (name_in found ≡ Some (codes "new")) × (file_in found ≡ Some file)
+MeansKept file (Order at) found =
+    IsTimed (codes "order") file at found × (text_in (codes "send") found ≡ None)
+MeansKept file (Take at) found = IsTimed (codes "take") file at found
+MeansKept file (Show picture at) found =
+    IsSeen (codes "show") file at found × (picture ≡ is_set_in (codes "picture") found)
+MeansKept file (Listing at is_open is_json) found =
+    IsSeen (codes "list") file at found × (is_open ≡ is_set_in (codes "open") found)
+    × (is_json ≡ is_set_in (codes "json") found)
+
+-- and so is that over the network
+abbrev pub MeansNetwork : NetworkCall → Option (Text × List Row) → Type 0
+MeansNetwork Loop found = name_in found ≡ Some (codes "loop")
+MeansNetwork (SendOrder file at url) found =
+    IsTimed (codes "order") file.now at found × (text_in (codes "send") found ≡ Some url.now)
+MeansNetwork (Serve file listen limits requests peers field) found =
     IsServe file.now listen.now limits requests (option_map (λ path. path.now) peers)
     (option_map (λ name. name.now) field) found
-Means (Send url file) found = IsSend url.now (option_map (λ path. path.now) file) found
+MeansNetwork (Send url file) found = IsSend url.now (option_map (λ path. path.now) file) found
+
+-- the call is what was found
+abbrev pub Means : Call → Option (Text × List Row) → Type 0
+Means (Document call) found = MeansDocument call found
+Means (Kept file call) found = MeansKept file.now call found
+Means (Network call) found = MeansNetwork call found
 
 -- the call is what was found, and the paths and the address are the words behind `--from`,
 -- `--journal` and `--page` where they are there
@@ -188,7 +206,8 @@ pub record IsInvocation (i : Invocation) (found : Option (Text × List Row)) : T
 -- `edit` from standard input, with no journal and no page
 abbrev pub IsEdit : Invocation → Type 0
 IsEdit i =
-    (i.call ≡ Edit) × (i.from ≡ None) × (i.journal ≡ None) × (i.page ≡ None) × (i.orders ≡ None)
+    (i.call ≡ Document Edit) × (i.from ≡ None) × (i.journal ≡ None) × (i.page ≡ None)
+    × (i.orders ≡ None)
 
 -- the fault says what clap's error says: that memory ran out, or else that error itself
 abbrev pub TellsOf : Error → CallFault → Type 0

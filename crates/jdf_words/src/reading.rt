@@ -14,7 +14,10 @@ ghost use Rattle.jdf_words.specs.declared.call_fault.CallFault.TheVariants.{Memo
 use crate::call::Call;
 use crate::call_fault::CallFault;
 use crate::commands;
+use crate::document_call::DocumentCall;
 use crate::invocation::Invocation;
+use crate::kept_call::KeptCall;
+use crate::network_call::NetworkCall;
 use crate::serve_limits::ServeLimits;
 use clap::ArgMatches;
 use std::alloc::Global;
@@ -104,8 +107,11 @@ fn order_of<'a>(found: &ArgMatches<'a>) -> Call<'a>
     let file = file_in(found);
     let at = at_in(found);
     match text_in(found, "send") {
-        None => Call::Order { file, at },
-        Some(url) => Call::SendOrder { file, at, url },
+        None => Call::Kept {
+            file,
+            call: KeptCall::Order { at },
+        },
+        Some(url) => Call::Network(NetworkCall::SendOrder { file, at, url }),
     }
 }
 
@@ -113,10 +119,10 @@ fn order_of<'a>(found: &ArgMatches<'a>) -> Call<'a>
 fn check_of<'a>(found: &ArgMatches<'a>) -> Call<'a>
     ensures { Means result (Some (codes "check", rows_of (found_of found.now))) }
 {
-    Call::Check {
+    Call::Document(DocumentCall::Check {
         kind: text_in(found, "KIND"),
         all: is_set(found, "all"),
-    }
+    })
 }
 
 /// The call of `explain` with these arguments.
@@ -124,9 +130,9 @@ fn explain_of<'a>(found: &ArgMatches<'a>) -> Call<'a>
     requires { HasText (codes "N") (rows_of (found_of found.now)) }
     ensures { Means result (Some (codes "explain", rows_of (found_of found.now))) }
 {
-    Call::Explain {
+    Call::Document(DocumentCall::Explain {
         number: text_in(found, "N").unwrap(),
-    }
+    })
 }
 
 /// The call of `serve` with these arguments.
@@ -135,14 +141,14 @@ fn serve_of<'a>(found: &ArgMatches<'a>) -> Call<'a>
     requires serving { HasServing (rows_of (found_of found.now)) }
     ensures { Means result (Some (codes "serve", rows_of (found_of found.now))) }
 {
-    Call::Serve {
+    Call::Network(NetworkCall::Serve {
         file: file_in(found),
         listen: text_in(found, "listen").unwrap(),
         limits: limits_in(found),
         requests: requests_in(found),
         peers: text_in(found, "peers"),
         sender_field: text_in(found, "sender-field"),
-    }
+    })
 }
 
 /// The call of `send` with these arguments.
@@ -150,10 +156,10 @@ fn send_of<'a>(found: &ArgMatches<'a>) -> Call<'a>
     requires { HasText (codes "URL") (rows_of (found_of found.now)) }
     ensures { Means result (Some (codes "send", rows_of (found_of found.now))) }
 {
-    Call::Send {
+    Call::Network(NetworkCall::Send {
         url: text_in(found, "URL").unwrap(),
         file: text_in(found, "FILE"),
-    }
+    })
 }
 
 /// N among the arguments that were found, where it is there.
@@ -172,10 +178,12 @@ fn show_of<'a>(found: &ArgMatches<'a>) -> Call<'a>
     requires at { MayHaveAt (rows_of (found_of found.now)) }
     ensures { Means result (Some (codes "show", rows_of (found_of found.now))) }
 {
-    Call::Show {
+    Call::Kept {
         file: file_in(found),
-        picture: is_set(found, "picture"),
-        at: moment_in(found),
+        call: KeptCall::Show {
+            picture: is_set(found, "picture"),
+            at: moment_in(found),
+        },
     }
 }
 
@@ -185,11 +193,13 @@ fn list_of<'a>(found: &ArgMatches<'a>) -> Call<'a>
     requires at { MayHaveAt (rows_of (found_of found.now)) }
     ensures { Means result (Some (codes "list", rows_of (found_of found.now))) }
 {
-    Call::Listing {
+    Call::Kept {
         file: file_in(found),
-        at: moment_in(found),
-        is_open: is_set(found, "open"),
-        is_json: is_set(found, "json"),
+        call: KeptCall::List {
+            at: moment_in(found),
+            is_open: is_set(found, "open"),
+            is_json: is_set(found, "json"),
+        },
     }
 }
 
@@ -199,16 +209,17 @@ fn call_of<'a>(name: &str, found: &ArgMatches<'a>) -> Call<'a>
     ensures { Means result (Some (name.now, rows_of (found_of found.now))) }
 {
     match name {
-        "edit" => Call::Edit,
-        "world" => Call::World,
-        "loop" => Call::Loop,
-        "new" => Call::New {
+        "edit" => Call::Document(DocumentCall::Edit),
+        "world" => Call::Document(DocumentCall::World),
+        "loop" => Call::Network(NetworkCall::Loop),
+        "new" => Call::Kept {
             file: file_in(found),
+            call: KeptCall::New,
         },
         "order" => order_of(found),
-        "take" => Call::Take {
+        "take" => Call::Kept {
             file: file_in(found),
-            at: at_in(found),
+            call: KeptCall::Take { at: at_in(found) },
         },
         "show" => show_of(found),
         "check" => check_of(found),
@@ -269,7 +280,7 @@ pub fn command_of<'a>(alloc: Global, words: &'a [String]) -> Result<Invocation<'
 {
     if words.is_empty() {
         return Ok(Invocation {
-            call: Call::Edit,
+            call: Call::Document(DocumentCall::Edit),
             from: None,
             journal: None,
             page: None,

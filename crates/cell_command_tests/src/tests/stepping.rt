@@ -3,7 +3,7 @@ use super::{Turn, cell_with, held, lend, word_of};
 use cell_commands::{CellFault, output_in_cell};
 use cells::Cell;
 use file_commands::OutputWithNotes;
-use jdf_words::Call;
+use jdf_words::KeptCall;
 use journal::MemoryJournal;
 use std::alloc::Global;
 use std::test::Fail;
@@ -35,13 +35,11 @@ enum Asked {
 }
 
 /// The call, at 110.
-fn call_of(asked: Asked) -> Call<'static> {
-    let file = "etcd://127.0.0.1:2379/press";
+fn call_of(asked: Asked) -> KeptCall {
     match asked {
-        Asked::Take => Call::Take { file, at: 110 },
-        Asked::Order => Call::Order { file, at: 110 },
-        Asked::Show => Call::Show {
-            file,
+        Asked::Take => KeptCall::Take { at: 110 },
+        Asked::Order => KeptCall::Order { at: 110 },
+        Asked::Show => KeptCall::Show {
             picture: false,
             at: None,
         },

@@ -2,8 +2,8 @@
 
 use super::fakes::{Sink, Source};
 use super::texts::{NO_ENTRY, OPEN_ENTRY, SUBMIT};
-use jdf_commands::run_file;
-use jdf_words::command_of;
+use file_commands::run_file;
+use jdf_words::{Call, command_of};
 use journal::FileJournal;
 use std::alloc::{AllocError, Global};
 use std::fs;
@@ -122,11 +122,15 @@ fn ends_so(rt: &HostRuntime, case: &Case) -> Result<bool, AllocError> {
     let Ok(asked) = command_of(rt.alloc(), words.as_slice()) else {
         return Ok(false);
     };
+    let Call::Kept { file, call } = asked.call else {
+        return Ok(false);
+    };
     let mut journal = FileJournal::at(rt, None);
     let status = run_file(
         rt,
         rt.alloc(),
-        &asked.call,
+        file,
+        call,
         &mut reader,
         &mut writer,
         &mut faults,

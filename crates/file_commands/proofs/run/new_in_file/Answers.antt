@@ -4,7 +4,7 @@ use Rattle.streams.specs.Streams.{traffic}
 use Rattle.stored_state.specs.declared.addressee.Addressee.{Addressee}
 use Rattle.keepers.specs.SystemFile.{keep_in_new_file, save_fails}
 use Rattle.file_commands.specs.Commands.{BeginsNone}
-use Rattle.jdf_commands.proofs.run.new_in_file.Goals as goal
+use Rattle.file_commands.proofs.run.new_in_file.Goals as goal
 
 pub returns-clause-refused : goal.returns-clause-refused
 returns-clause-refused g c =

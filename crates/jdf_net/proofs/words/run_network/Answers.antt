@@ -1,9 +1,6 @@
 use Rattle.std.proofs.Common.{◌∙◌, refl, sym}
-use Rattle.jdf_net.proofs.AnyCalls.{not_over_network, sends_none, sends_of_file}
-use Rattle.jdf_net.proofs.words.run_call.Goals as goal
-
-pub returns-in_default : goal.returns-in_default
-returns-in_default g c = not_over_network _ _ _ _ _ c.in_default.not-Loop c.in_default.not-SendOrder c.in_default.not-Serve c.in_default.not-Send c.run_local.ensures
+use Rattle.jdf_net.proofs.AnyCalls.{sends_none, sends_of_file}
+use Rattle.jdf_net.proofs.words.run_network.Goals as goal
 
 pub returns-then-is_etcd : goal.returns-then-is_etcd
 returns-then-is_etcd g c =
