@@ -4,7 +4,7 @@ use Rattle.std.proofs.lemmas.Bool.{cases_eq, and_from, and_parts, and_right, eqb
 use Rattle.std.proofs.lemmas.Grind.{common_steps, elements}
 use Rattle.std.proofs.lemmas.List.Sums.{count_by-le-length, sum_by-set, sum_by_push}
 use Rattle.courier.specs.Destination.{Destination, IsPaced, after_hearing, new_at, waits, with_item}
-use Rattle.courier.specs.Table.{AreTried, IsKept, IsNext, IsQuiet, IsWake, destination_at, flies_at, has_turn, turn_at, waits_at}
+use Rattle.courier.specs.Table.{AreTried, IsConsistent, IsNext, IsQuiet, IsWake, destination_at, flies_at, has_turn, turn_at, waits_at}
 use Rattle.courier.specs.Turns.{IsBefore, IsFirstOfAll, IsMoved, IsTaken, Joins, Leaves, NoneIsDue, Turns, is_turn, one_if, times}
 use Rattle.courier.specs.declared.turn.Turn.{Turn}
 
@@ -48,18 +48,18 @@ true_if_one : (b : Bool) → 0 < one_if b → b ≡ true
 true_if_one true one = refl
 true_if_one false one = absurd (omega arith)
 
-pub turn-there : (ds : List Destination) (schedule : Turns) (turn : Turn) → IsKept ds schedule → 0 < times turn schedule.turns → (waits_at ds turn.line ≡ true) × ((destination_at ds turn.line).due ≡ turn.due) × (turn.line < length ds)
+pub turn-there : (ds : List Destination) (schedule : Turns) (turn : Turn) → IsConsistent ds schedule → 0 < times turn schedule.turns → (waits_at ds turn.line ≡ true) × ((destination_at ds turn.line).due ≡ turn.due) × (turn.line < length ds)
 turn-there ds schedule turn kept there =
     let has = true_if_one (has_turn ds turn) (omega (arith, kept.scheduled turn)) in
     let parts = and_parts (waits_at ds turn.line) ((destination_at ds turn.line).due == turn.due) has in
     (parts.0, eqb-true _ _ parts.1, waits-within ds turn.line parts.0)
 
-pub waits-there : (ds : List Destination) (schedule : Turns) (line : ℕ) → IsKept ds schedule → waits_at ds line ≡ true → 0 < times (turn_at ds line) schedule.turns
+pub waits-there : (ds : List Destination) (schedule : Turns) (line : ℕ) → IsConsistent ds schedule → waits_at ds line ≡ true → 0 < times (turn_at ds line) schedule.turns
 waits-there ds schedule line kept waiting =
     let has = and_from (waits_at ds line) ((destination_at ds line).due == (destination_at ds line).due) waiting (eq-eqb (destination_at ds line).due _ refl) in
     omega (arith, kept.scheduled (turn_at ds line), ap one_if has)
 
-pub has-room : (ds : List Destination) (schedule : Turns) (line : ℕ) → IsKept ds schedule → line < length ds → waits_at ds line ≡ false → length schedule.turns < schedule.room
+pub has-room : (ds : List Destination) (schedule : Turns) (line : ℕ) → IsConsistent ds schedule → line < length ds → waits_at ds line ≡ false → length schedule.turns < schedule.room
 has-room ds schedule line kept within idle =
     let fewer = count-below ds line within idle in
     let many = kept.many in
@@ -87,8 +87,8 @@ has_turn-changed ds line new turn within here = has_turn-here (slice_set ds line
 has_turn-other : (ds : List Destination) (line : ℕ) (new : Destination) (turn : Turn) → (turn.line ≡ line → ⊥) → has_turn (slice_set ds line new) turn ≡ has_turn ds turn
 has_turn-other ds line new turn other = ap (λ d. waits d && d.due == turn.due) (at-other ds line turn.line new other)
 
-IsKept-changed : (ds : List Destination) (line : ℕ) (new : Destination) (old after : Turns) → line < length ds → IsPaced new → IsKept ds old → ((turn : Turn) → times turn after.turns + one_if (is_its (destination_at ds line) line turn) ≡ times turn old.turns + one_if (is_its new line turn)) → length after.turns + one_if (waits_at ds line) ≡ length old.turns + one_if (waits new) → old.room ≤ after.room → IsKept (slice_set ds line new) after
-IsKept-changed ds line new old after within paced kept counted many room =
+IsConsistent-changed : (ds : List Destination) (line : ℕ) (new : Destination) (old after : Turns) → line < length ds → IsPaced new → IsConsistent ds old → ((turn : Turn) → times turn after.turns + one_if (is_its (destination_at ds line) line turn) ≡ times turn old.turns + one_if (is_its new line turn)) → length after.turns + one_if (waits_at ds line) ≡ length old.turns + one_if (waits new) → old.room ≤ after.room → IsConsistent (slice_set ds line new) after
+IsConsistent-changed ds line new old after within paced kept counted many room =
     record {
       paced = grind (arith, elements, kept.paced);
       scheduled = λ turn.
@@ -100,32 +100,32 @@ IsKept-changed ds line new old after within paced kept counted many room =
       room = let same = length-set {A = Destination} ds line new in omega (arith, kept.room);
     }
 
-pub IsKept-joined : (ds : List Destination) (line : ℕ) (new : Destination) (on : Bool) (turn : Turn) (old after : Turns) → line < length ds → IsPaced new → IsKept ds old → waits_at ds line ≡ false → on ≡ waits new → turn ≡ record { due = new.due; line = line } → Joins on turn old after → IsKept (slice_set ds line new) after
-IsKept-joined ds line new on turn old after within paced kept idle waiting its joins =
+pub IsConsistent-joined : (ds : List Destination) (line : ℕ) (new : Destination) (on : Bool) (turn : Turn) (old after : Turns) → line < length ds → IsPaced new → IsConsistent ds old → waits_at ds line ≡ false → on ≡ waits new → turn ≡ record { due = new.due; line = line } → Joins on turn old after → IsConsistent (slice_set ds line new) after
+IsConsistent-joined ds line new on turn old after within paced kept idle waiting its joins =
     let none = ap one_if idle in
     let some = ap one_if waiting in
-    IsKept-changed ds line new old after within paced kept
+    IsConsistent-changed ds line new old after within paced kept
     (λ q. omega (arith, joins.counted q, ap₂ (λ b t. one_if (b && is_turn q t)) waiting its, ap (λ b. one_if (b && is_turn q (turn_at ds line))) idle))
     (omega (arith, joins.more)) joins.kept
 
-pub IsKept-stayed : (ds : List Destination) (line : ℕ) (new : Destination) (turn : Turn) (old after : Turns) → line < length ds → IsPaced new → IsKept ds old → waits new ≡ waits_at ds line → new.due ≡ (destination_at ds line).due → Joins false turn old after → IsKept (slice_set ds line new) after
-IsKept-stayed ds line new turn old after within paced kept same due joins =
+pub IsConsistent-stayed : (ds : List Destination) (line : ℕ) (new : Destination) (turn : Turn) (old after : Turns) → line < length ds → IsPaced new → IsConsistent ds old → waits new ≡ waits_at ds line → new.due ≡ (destination_at ds line).due → Joins false turn old after → IsConsistent (slice_set ds line new) after
+IsConsistent-stayed ds line new turn old after within paced kept same due joins =
     let alike = ap one_if same in
-    IsKept-changed ds line new old after within paced kept
+    IsConsistent-changed ds line new old after within paced kept
     (λ q. omega (arith, joins.counted q, ap₂ (λ w k. one_if (w && is_turn q (record { due = k; line = line }))) same due))
     (omega (arith, joins.more)) joins.kept
 
-pub IsKept-left : (ds : List Destination) (line : ℕ) (new : Destination) (turn : Turn) (old after : Turns) → line < length ds → IsPaced new → IsKept ds old → waits new ≡ false → waits_at ds line ≡ true → turn ≡ turn_at ds line → Leaves turn old after → IsKept (slice_set ds line new) after
-IsKept-left ds line new turn old after within paced kept idle waiting its leaves =
+pub IsConsistent-left : (ds : List Destination) (line : ℕ) (new : Destination) (turn : Turn) (old after : Turns) → line < length ds → IsPaced new → IsConsistent ds old → waits new ≡ false → waits_at ds line ≡ true → turn ≡ turn_at ds line → Leaves turn old after → IsConsistent (slice_set ds line new) after
+IsConsistent-left ds line new turn old after within paced kept idle waiting its leaves =
     let none = ap one_if idle in
     let one = ap one_if waiting in
-    IsKept-changed ds line new old after within paced kept
+    IsConsistent-changed ds line new old after within paced kept
     (λ q. omega (arith, leaves.counted q, ap (λ t. one_if (is_turn q t)) its, ap (λ b. one_if (b && is_turn q (turn_at ds line))) waiting, ap (λ b. one_if (b && is_turn q (record { due = new.due; line = line }))) idle))
     (omega (arith, leaves.less)) leaves.kept
 
 -- ---- one that is heard from
 
-pub turn-once : (ds : List Destination) (schedule : Turns) (line : ℕ) → IsKept ds schedule → waits_at ds line ≡ true → times (turn_at ds line) schedule.turns ≡ 1
+pub turn-once : (ds : List Destination) (schedule : Turns) (line : ℕ) → IsConsistent ds schedule → waits_at ds line ≡ true → times (turn_at ds line) schedule.turns ≡ 1
 turn-once ds schedule line kept waiting =
     let has = and_from (waits_at ds line) ((destination_at ds line).due == (destination_at ds line).due) waiting (eq-eqb (destination_at ds line).due _ refl) in
     kept.scheduled (turn_at ds line) ∙ ap one_if has
@@ -140,20 +140,20 @@ after_hearing-its now d line turn idle = by (waits d) idle
         ap (λ due. is_turn turn (record { due = due; line = line })) same
     by false idle = refl
 
-pub IsKept-idle : (ds : List Destination) (line now : ℕ) (schedule : Turns) → line < length ds → IsPaced (after_hearing now (destination_at ds line)) → IsKept ds schedule → (waits_at ds line && nat_lt now (destination_at ds line).due) ≡ false → IsKept (slice_set ds line (after_hearing now (destination_at ds line))) schedule
-IsKept-idle ds line now schedule within paced kept idle =
+pub IsConsistent-idle : (ds : List Destination) (line now : ℕ) (schedule : Turns) → line < length ds → IsPaced (after_hearing now (destination_at ds line)) → IsConsistent ds schedule → (waits_at ds line && nat_lt now (destination_at ds line).due) ≡ false → IsConsistent (slice_set ds line (after_hearing now (destination_at ds line))) schedule
+IsConsistent-idle ds line now schedule within paced kept idle =
     let d = destination_at ds line in
-    IsKept-changed ds line (after_hearing now d) schedule schedule within paced kept
+    IsConsistent-changed ds line (after_hearing now d) schedule schedule within paced kept
     (λ q. omega (arith, ap one_if (after_hearing-its now d line q idle)))
     (omega arith) (omega arith)
 
-pub IsKept-moved : (ds : List Destination) (line now : ℕ) (old after : Turns) → line < length ds → IsPaced (after_hearing now (destination_at ds line)) → IsKept ds old → (waits_at ds line && nat_lt now (destination_at ds line).due) ≡ true → IsMoved (turn_at ds line) now old after → IsKept (slice_set ds line (after_hearing now (destination_at ds line))) after
-IsKept-moved ds line now old after within paced kept ends moved =
+pub IsConsistent-moved : (ds : List Destination) (line now : ℕ) (old after : Turns) → line < length ds → IsPaced (after_hearing now (destination_at ds line)) → IsConsistent ds old → (waits_at ds line && nat_lt now (destination_at ds line).due) ≡ true → IsMoved (turn_at ds line) now old after → IsConsistent (slice_set ds line (after_hearing now (destination_at ds line))) after
+IsConsistent-moved ds line now old after within paced kept ends moved =
     let d = destination_at ds line in
     let parts = and_parts (waits d) (nat_lt now d.due) ends in
     let high = ltb-true now d.due parts.1 in
     let due : min d.due now ≡ now = omega arith in
-    IsKept-changed ds line (after_hearing now d) old after within paced kept
+    IsConsistent-changed ds line (after_hearing now d) old after within paced kept
     (λ q. omega (arith, moved.counted q, ap₂ (λ w k. one_if (w && is_turn q (record { due = k; line = line }))) parts.0 due, ap (λ w. one_if (w && is_turn q (turn_at ds line))) parts.0))
     (omega (arith, moved.many)) moved.kept
 
@@ -168,16 +168,16 @@ flies-not d paced none = false_from_ne_true d.flying (λ flying. omega (arith, p
 pub idle-empty : (d : Destination) → (length d.items == 0) ≡ true → waits d ≡ false
 idle-empty d none = and_right (not d.flying) _ (ap not none)
 
-pub IsKept-put : (ds : List Destination) (line item : ℕ) (on : Bool) (turn : Turn) (old after : Turns) → line < length ds → IsPaced (with_item item (destination_at ds line)) → IsKept ds old → on ≡ (length (destination_at ds line).items == 0) → turn ≡ turn_at ds line → Joins on turn old after → IsKept (slice_set ds line (with_item item (destination_at ds line))) after
-IsKept-put ds line item true turn old after within paced kept empty its joins =
+pub IsConsistent-put : (ds : List Destination) (line item : ℕ) (on : Bool) (turn : Turn) (old after : Turns) → line < length ds → IsPaced (with_item item (destination_at ds line)) → IsConsistent ds old → on ≡ (length (destination_at ds line).items == 0) → turn ≡ turn_at ds line → Joins on turn old after → IsConsistent (slice_set ds line (with_item item (destination_at ds line))) after
+IsConsistent-put ds line item true turn old after within paced kept empty its joins =
     let d = destination_at ds line in
     let still = flies-not d (kept.paced line (new_at 0) within) (eqb-true _ _ (sym empty)) in
     let waiting = ap₂ (λ f b. not f && not b) still (has-some d.items item) in
-    IsKept-joined ds line (with_item item d) true turn old after within paced kept (idle-empty d (sym empty)) (sym waiting) its joins
-IsKept-put ds line item false turn old after within paced kept some its joins =
+    IsConsistent-joined ds line (with_item item d) true turn old after within paced kept (idle-empty d (sym empty)) (sym waiting) its joins
+IsConsistent-put ds line item false turn old after within paced kept some its joins =
     let d = destination_at ds line in
     let same = ap (λ b. not d.flying && not b) (has-some d.items item ∙ some) in
-    IsKept-stayed ds line (with_item item d) turn old after within paced kept same refl joins
+    IsConsistent-stayed ds line (with_item item d) turn old after within paced kept same refl joins
 
 has_turn-added : (ds : List Destination) (now k due : ℕ) → (waits_at (ds ++ new_at now ∷ []) k && (destination_at (ds ++ new_at now ∷ []) k).due == due) ≡ (waits_at ds k && (destination_at ds k).due == due)
 has_turn-added [] now zero due = refl
@@ -185,8 +185,8 @@ has_turn-added [] now (suc k) due = refl
 has_turn-added (d ∷ ds) now zero due = refl
 has_turn-added (d ∷ ds) now (suc k) due = has_turn-added ds now k due
 
-pub IsKept-added : (ds : List Destination) (now : ℕ) (old after : Turns) → IsPaced (new_at now) → IsKept ds old → after.turns ≡ old.turns → length ds + 1 ≤ after.room → IsKept (ds ++ new_at now ∷ []) after
-IsKept-added ds now old after paced kept same room =
+pub IsConsistent-added : (ds : List Destination) (now : ℕ) (old after : Turns) → IsPaced (new_at now) → IsConsistent ds old → after.turns ≡ old.turns → length ds + 1 ≤ after.room → IsConsistent (ds ++ new_at now ∷ []) after
+IsConsistent-added ds now old after paced kept same room =
     record {
       paced = grind (arith, elements, kept.paced);
       scheduled = λ turn. ap (times turn) same ∙ kept.scheduled turn ∙ sym (ap one_if (has_turn-added ds now turn.line turn.due));
@@ -196,23 +196,23 @@ IsKept-added ds now old after paced kept same room =
 
 -- ---- the next
 
-pub IsQuiet-none : (now : ℕ) (ds : List Destination) (old after : Turns) → IsKept ds old → NoneIsDue now old after → IsQuiet now ds
+pub IsQuiet-none : (now : ℕ) (ds : List Destination) (old after : Turns) → IsConsistent ds old → NoneIsDue now old after → IsQuiet now ds
 IsQuiet-none now ds old after kept none = λ line waiting. none.later (turn_at ds line) (waits-there ds old line kept waiting)
 
-pub AreTried-quiet : (now : ℕ) (ds : List Destination) (schedule : Turns) → IsKept ds schedule → IsQuiet now ds → AreTried now ds
+pub AreTried-quiet : (now : ℕ) (ds : List Destination) (schedule : Turns) → IsConsistent ds schedule → IsQuiet now ds → AreTried now ds
 AreTried-quiet now ds schedule kept quiet = λ line waiting.
     let within = waits-within ds line waiting in
     omega (arith, quiet line waiting, (kept.paced line (new_at 0) within).soon)
 
-turn-its : (ds : List Destination) (schedule : Turns) (turn : Turn) → IsKept ds schedule → 0 < times turn schedule.turns → turn ≡ turn_at ds turn.line
+turn-its : (ds : List Destination) (schedule : Turns) (turn : Turn) → IsConsistent ds schedule → 0 < times turn schedule.turns → turn ≡ turn_at ds turn.line
 turn-its ds schedule turn kept there = ap (λ due. record { due = due; line = turn.line }) (sym (turn-there ds schedule turn kept there).1)
 
-pub IsKept-taken : (now : ℕ) (ds : List Destination) (turn : Turn) (new : Destination) (old after : Turns) → IsPaced new → waits new ≡ false → IsKept ds old → IsTaken now turn old after → IsKept (slice_set ds turn.line new) after
-IsKept-taken now ds turn new old after paced idle kept taken =
+pub IsConsistent-taken : (now : ℕ) (ds : List Destination) (turn : Turn) (new : Destination) (old after : Turns) → IsPaced new → waits new ≡ false → IsConsistent ds old → IsTaken now turn old after → IsConsistent (slice_set ds turn.line new) after
+IsConsistent-taken now ds turn new old after paced idle kept taken =
     let there = turn-there ds old turn kept taken.there in
-    IsKept-left ds turn.line new turn old after there.2 paced kept idle there.0 (turn-its ds old turn kept taken.there) taken.leaves
+    IsConsistent-left ds turn.line new turn old after there.2 paced kept idle there.0 (turn-its ds old turn kept taken.there) taken.leaves
 
-pub IsNext-taken : (now : ℕ) (ds : List Destination) (turn : Turn) (item : ℕ) (old after : Turns) → IsKept ds old → IsTaken now turn old after → slice_get (destination_at ds turn.line).items 0 ≡ Some item → IsNext now ds (record { line = turn.line; item = item })
+pub IsNext-taken : (now : ℕ) (ds : List Destination) (turn : Turn) (item : ℕ) (old after : Turns) → IsConsistent ds old → IsTaken now turn old after → slice_get (destination_at ds turn.line).items 0 ≡ Some item → IsNext now ds (record { line = turn.line; item = item })
 IsNext-taken now ds turn item old after kept taken first =
     let there = turn-there ds old turn kept taken.there in
     let its = turn-its ds old turn kept taken.there in
@@ -224,7 +224,7 @@ IsNext-taken now ds turn item old after kept taken first =
       first = λ line waiting. subst (λ t. IsBefore t (turn_at ds line)) its (taken.first (turn_at ds line) (waits-there ds old line kept waiting));
     }
 
-pub IsWake-first : (ds : List Destination) (schedule : Turns) (first : Option Turn) → IsKept ds schedule → IsFirstOfAll schedule.turns first → IsWake ds (option_map (λ t. t.due) first)
+pub IsWake-first : (ds : List Destination) (schedule : Turns) (first : Option Turn) → IsConsistent ds schedule → IsFirstOfAll schedule.turns first → IsWake ds (option_map (λ t. t.due) first)
 IsWake-first ds schedule None kept none = λ line waiting. omega (arith, none (turn_at ds line), waits-there ds schedule line kept waiting)
 IsWake-first ds schedule (Some turn) kept first =
     let there = turn-there ds schedule turn kept first.0 in

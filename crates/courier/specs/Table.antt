@@ -86,7 +86,7 @@ has_turn ds turn = waits_at ds turn.line && (destination_at ds turn.line).due ==
 
 -- what always holds: each is paced, the turns are those of the ones that wait, each of them once,
 -- and there is room for all
-pub record IsKept (ds : List Destination) (schedule : Turns) : Type 0 where
+pub record IsConsistent (ds : List Destination) (schedule : Turns) : Type 0 where
   pub paced : All IsPaced ds
   pub scheduled : (turn : Turn) → times turn schedule.turns ≡ one_if (has_turn ds turn)
   pub many : length schedule.turns ≡ count_by waits ds

@@ -26,11 +26,11 @@ impl Model for Courier {
 
     ghost Value = { List Destination };
 
-    ghost use Rattle.courier.specs.Table.{IsKept};
+    ghost use Rattle.courier.specs.Table.{IsConsistent};
 
     ghost view = { λ a. a.lines.items };
 
-    ghost invariant = { λ a. IsKept a.lines.items a.schedule };
+    ghost invariant = { λ a. IsConsistent a.lines.items a.schedule };
 }
 
 impl Courier {

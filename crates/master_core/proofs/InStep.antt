@@ -20,7 +20,7 @@ use Rattle.merge.specs.Withdrawal.{job_after_withdrawal, withdrawn_audit}
 use Rattle.master_core.proofs.MessageKept.{freed_kept, merged_kept}
 use Rattle.master_core.proofs.Merging.{free_there, put_there}
 use Rattle.master_core.proofs.OrderKept.{ordered_kept}
-use Rattle.master_core.proofs.RecordPlaces.{OutThere}
+use Rattle.master_core.proofs.RecordPlaces.{IsOutAt}
 use Rattle.master_core.proofs.Refusals.{edit_free}
 use Rattle.master_core.specs.Master.{IsConsistent, IsInStep, State, merged_record, state, withdrawn_record}
 use Rattle.master_core.specs.Orders.{allowed_step, edit_refusal}
@@ -29,7 +29,7 @@ use Rattle.world_items.specs.declared.master_order.Order.TheVariants as order
 -- ---- a spawn that ends
 
 -- no spawn holds the claim of one that ended
-ended : (w : State) (h after : Holdings) (s k : ℕ) (r made : SpawnRec) (later : Job) → IsInStep w h → OutThere w.records s k r → is_out made ≡ false → places later.rows ≡ places w.ticket.rows
+ended : (w : State) (h after : Holdings) (s k : ℕ) (r made : SpawnRec) (later : Job) → IsInStep w h → IsOutAt w.records s k r → is_out made ≡ false → places later.rows ≡ places w.ticket.rows
     → IsConsistent (state w.name w.workers later (slice_set w.records k made)) → IsGiven (claims later.rows r) None h after → IsInStep (state w.name w.workers later (slice_set w.records k made)) after
 ended w h after s k r made later step own off still kept given =
     record {
@@ -38,7 +38,7 @@ ended w h after s k r made later step own off still kept given =
     }
 
 -- that of a spawn whose part was put in
-pub put_in_step : (w : State) (h after : Holdings) (p : PartCopy) (at k : ℕ) (r : SpawnRec) → IsInStep w h → OutThere w.records p.spawn_id k r → Fits w.ticket r p → IsValid (with_copies p.rows p.rw p.ro)
+pub put_in_step : (w : State) (h after : Holdings) (p : PartCopy) (at k : ℕ) (r : SpawnRec) → IsInStep w h → IsOutAt w.records p.spawn_id k r → Fits w.ticket r p → IsValid (with_copies p.rows p.rw p.ro)
     → IsGiven (claims (put w.ticket r p at).rows r) None h after
     → IsInStep (state w.name w.workers (put w.ticket r p at) (slice_set w.records k (merged_record r))) after
 put_in_step w h after p at k r step own fits part given =
@@ -47,7 +47,7 @@ put_in_step w h after p at k r step own fits part given =
     ended w h after p.spawn_id k r (merged_record r) (put w.ticket r p at) step own refl still (subst IsConsistent (sym (put_there w p at k r step.kept.numbered own)) kept) given
 
 -- and that of one that was withdrawn
-pub free_in_step : (w : State) (h after : Holdings) (s at k : ℕ) (r : SpawnRec) → IsInStep w h → OutThere w.records s k r
+pub free_in_step : (w : State) (h after : Holdings) (s at k : ℕ) (r : SpawnRec) → IsInStep w h → IsOutAt w.records s k r
     → IsGiven (claims (job_after_withdrawal w.ticket r at).rows r) None h after
     → IsInStep (state w.name w.workers (job_after_withdrawal w.ticket r at) (slice_set w.records k (withdrawn_record r))) after
 free_in_step w h after s at k r step own given =

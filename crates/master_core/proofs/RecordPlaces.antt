@@ -37,7 +37,7 @@ got_there xs k None none at = sym (slice_get_past xs k (ltb-false k (length xs) 
 got_there xs k (Some x) some at = sym (slice_get_read xs (length xs) k x.now refl (ltb-true k (length xs) (sym some)) at)
 
 -- the record of a spawn that is out, where it stands
-pub record OutThere (xs : List SpawnRec) (s k : ℕ) (r : SpawnRec) : Type 0 where
+pub record IsOutAt (xs : List SpawnRec) (s k : ℕ) (r : SpawnRec) : Type 0 where
   pub there : slice_get xs k ≡ Some r
   pub found : record_of xs s ≡ Some r
   pub out : is_out r ≡ true
@@ -47,15 +47,15 @@ record_out : (o : Option SpawnRec) → option_map_or is_out o false ≡ true →
 record_out None e = cc
 record_out (Some r) e = (r, refl, e)
 
-pub out_there : (xs : List SpawnRec) (s k : ℕ) → IsNumbered xs → suc k ≡ s → is_spawn_out xs s ≡ true → (r : SpawnRec) × OutThere xs s k r
+pub out_there : (xs : List SpawnRec) (s k : ℕ) → IsNumbered xs → suc k ≡ s → is_spawn_out xs s ≡ true → (r : SpawnRec) × IsOutAt xs s k r
 out_there xs s k numbered is out =
     let own = record_out (record_of xs s) out in
     let at : slice_get xs k ≡ Some own.0 = record_there xs k s numbered is ∙ own.1 in
     (own.0, record { there = at; found = own.1; out = own.2; within = slice_get_within xs k own.0 at })
 
 -- the same of what was read there
-pub out_read : (xs : List SpawnRec) (s k : ℕ) (r : SpawnRec) → IsNumbered xs → suc k ≡ s → is_spawn_out xs s ≡ true → r ≡ get_or xs k r → OutThere xs s k r
+pub out_read : (xs : List SpawnRec) (s k : ℕ) (r : SpawnRec) → IsNumbered xs → suc k ≡ s → is_spawn_out xs s ≡ true → r ≡ get_or xs k r → IsOutAt xs s k r
 out_read xs s k r numbered is out read =
     let own = out_there xs s k numbered is out in
     let same : own.0 ≡ r = sym (get_or_from_slice_get xs k own.0 r own.1.there) ∙ sym read in
-    subst (OutThere xs s k) same own.1
+    subst (IsOutAt xs s k) same own.1

@@ -10,7 +10,7 @@ pub mod Resting
 pub mod Rested
 pub mod Names
 pub mod Cause
-pub mod Station
+pub mod MemorySeat
 pub mod Seat
 pub mod OrderOutcome
 pub mod Snapshot

@@ -7,7 +7,7 @@ ghost use Rattle.ticket_items.specs.Ids.{mem};
 ghost use Rattle.world.specs.State as state;
 
 use std::alloc::Global;
-use stored_state::{Seat, Station};
+use stored_state::{MemorySeat, Seat};
 use ticket_tree::{Duplicate, Id, Refusal};
 use worker_core::Worker;
 
@@ -16,7 +16,7 @@ pub fn new_workers(
     alloc: Global,
     master: &Id,
     names: &[Id],
-) -> Result<Vec<Station<Worker>>, Refusal>
+) -> Result<Vec<MemorySeat<Worker>>, Refusal>
     requires apart { mem master.now names.now ≡ false }
     ensures ok { IfOk result
         (λ workers. workers.items ≡ map (state.new_worker master.now) names.now) }
@@ -25,7 +25,7 @@ pub fn new_workers(
     let mut workers = Vec::with_capacity(alloc, names.len())?;
     for name in names {
         let worker = Worker::new(alloc, name.copy(alloc)?, master.copy(alloc)?)?;
-        workers.push(Station::new(alloc, worker)?)?;
+        workers.push(MemorySeat::new(alloc, worker)?)?;
     }
     Ok(workers)
 }

@@ -6,7 +6,7 @@ use crate::workers::new_workers;
 use master_core::Master;
 use std::alloc::{AllocError, Global};
 use std::marker::Model;
-use stored_state::Station;
+use stored_state::MemorySeat;
 use ticket_tree::{Id, Ids, Refusal, Ticket};
 use worker_core::Worker;
 use world_items::{Answer, Event};
@@ -16,7 +16,7 @@ use world_items::{Answer, Event};
 /// started again. Between events each controller is as it is stored.
 #[derive(Drop)]
 pub struct World {
-    seats: Seats<Station<Master>, Station<Worker>>,
+    seats: Seats<MemorySeat<Master>, MemorySeat<Worker>>,
 }
 
 impl Model for World {
@@ -72,7 +72,7 @@ impl World {
             return Err(Refusal::SameName);
         }
         let core = Master::new(alloc, name, workers, ticket)?;
-        let master = Station::new(alloc, core)?;
+        let master = MemorySeat::new(alloc, core)?;
         let begun = master.controller();
         match new_workers(alloc, begun.name(), begun.workers()) {
             Ok(workers) => Ok(World {
@@ -103,8 +103,8 @@ impl World {
         // Proved: A worker is found by its name.
         ensures { option_copied result ≡ state.worker_of self.now.controllers.workers name.now }
     {
-        let station = self.seats.worker_seat(name)?;
-        Some(station.controller())
+        let seat = self.seats.worker_seat(name)?;
+        Some(seat.controller())
     }
 
     /// The text of the state of the controller of a name, from which it is started again.
@@ -120,8 +120,8 @@ impl World {
         if name == master.controller().name() {
             return Some(master.text());
         }
-        let station = self.seats.worker_seat(name)?;
-        Some(station.text())
+        let seat = self.seats.worker_seat(name)?;
+        Some(seat.text())
     }
 
     /// The text of every message that was sent, in the order in which they went out, each of which

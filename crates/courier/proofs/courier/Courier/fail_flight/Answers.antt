@@ -1,5 +1,5 @@
 use Rattle.std.proofs.Common.{true, sym, ap}
-use Rattle.courier.proofs.Keeping.{IsKept-joined, flies-within, has-room, idle-flying}
+use Rattle.courier.proofs.Keeping.{IsConsistent-joined, flies-within, has-room, idle-flying}
 use Rattle.courier.proofs.courier.Courier.fail_flight.Goals as goal
 
 -- there is room for its turn: it has none while something is in flight
@@ -16,4 +16,4 @@ invariant_of-self c =
     let ended = c.fail-due.ensures in
     let flies = rw (← c.self.view_is) at c.requires in
     let turn = ap (λ due. record { due = due; line = line }) ended.due in
-    IsKept-joined ds line c.fail-due.new.self true (record { due = c.fail-due.result; line = line }) c.self.inside.schedule c.add.new.self (flies-within ds line flies) ended.paced c.self.invariant (idle-flying ds line flies) (sym ended.waits) turn c.add.ensures
+    IsConsistent-joined ds line c.fail-due.new.self true (record { due = c.fail-due.result; line = line }) c.self.inside.schedule c.add.new.self (flies-within ds line flies) ended.paced c.self.invariant (idle-flying ds line flies) (sym ended.waits) turn c.add.ensures

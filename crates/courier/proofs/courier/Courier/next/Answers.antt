@@ -1,5 +1,5 @@
 use Rattle.std.proofs.Common.{◌∙◌, slice_get, arith, sym, ap}
-use Rattle.courier.proofs.Keeping.{AreTried-quiet, IsKept-taken, IsNext-taken, IsQuiet-none, at-read, turn-there}
+use Rattle.courier.proofs.Keeping.{AreTried-quiet, IsConsistent-taken, IsNext-taken, IsQuiet-none, at-read, turn-there}
 use Rattle.courier.specs.Destination.{waits}
 use Rattle.courier.proofs.courier.Courier.next.Goals as goal
 
@@ -23,7 +23,7 @@ begin-item-requires c =
 pub invariant_of-self-2 : goal.invariant_of-self-2
 invariant_of-self-2 c =
     let begun = c.begin-item.ensures in
-    IsKept-taken c.args.now _ c.in_ok-turn.turn c.begin-item.new.self _ _ begun.paced (ap waits begun.value) c.self.invariant c.in_ok-turn.ensures
+    IsConsistent-taken c.args.now _ c.in_ok-turn.turn c.begin-item.new.self _ _ begun.paced (ap waits begun.value) c.self.invariant c.in_ok-turn.ensures
 
 pub returns-clause-next : goal.returns-clause-next
 returns-clause-next c =

@@ -1,5 +1,5 @@
 use Rattle.std.proofs.Common.{sym, ap}
-use Rattle.courier.proofs.Keeping.{IsKept-joined, flies-within, has-room, idle-flying}
+use Rattle.courier.proofs.Keeping.{IsConsistent-joined, flies-within, has-room, idle-flying}
 use Rattle.courier.proofs.courier.Courier.settle_flight.Goals as goal
 
 -- there is room for its turn: it has none while something is in flight
@@ -16,4 +16,4 @@ invariant_of-self c =
     let ended = c.settle-goes_on.ensures in
     let flies = rw (← c.self.view_is) at c.requires in
     let turn = ap (λ due. record { due = due; line = line }) (ap (λ d. d.due) (sym ended.value)) in
-    IsKept-joined ds line c.settle-goes_on.new.self c.settle-goes_on.result (record { due = c.args.now; line = line }) c.self.inside.schedule c.add.new.self (flies-within ds line flies) ended.paced c.self.invariant (idle-flying ds line flies) ended.waits turn c.add.ensures
+    IsConsistent-joined ds line c.settle-goes_on.new.self c.settle-goes_on.result (record { due = c.args.now; line = line }) c.self.inside.schedule c.add.new.self (flies-within ds line flies) ended.paced c.self.invariant (idle-flying ds line flies) ended.waits turn c.add.ensures

@@ -1,6 +1,6 @@
 use Rattle.std.proofs.Common.{◌≡◌, arith, ap}
 use Rattle.std.proofs.lemmas.Grind.{common_steps}
-use Rattle.courier.proofs.Keeping.{IsKept-joined, flies-within, has-room, idle-flying}
+use Rattle.courier.proofs.Keeping.{IsConsistent-joined, flies-within, has-room, idle-flying}
 use Rattle.courier.proofs.courier.Courier.withdraw_flight.Goals as goal
 
 -- there is room for its turn: it has none while something is in flight
@@ -18,4 +18,4 @@ invariant_of-self c =
     let flies = rw (← c.self.view_is) at c.requires in
     let due : c.due_time-due.result ≡ c.take_first-goes_on.new.self.due = grind (arith, common_steps) in
     let turn = ap (λ due. record { due = due; line = line }) due in
-    IsKept-joined ds line c.take_first-goes_on.new.self c.take_first-goes_on.result (record { due = c.due_time-due.result; line = line }) c.self.inside.schedule c.add.new.self (flies-within ds line flies) ended.paced c.self.invariant (idle-flying ds line flies) ended.waits turn c.add.ensures
+    IsConsistent-joined ds line c.take_first-goes_on.new.self c.take_first-goes_on.result (record { due = c.due_time-due.result; line = line }) c.self.inside.schedule c.add.new.self (flies-within ds line flies) ended.paced c.self.invariant (idle-flying ds line flies) ended.waits turn c.add.ensures

@@ -4,7 +4,7 @@ use Rattle.spawn.specs.Holdings.{IsGiven, claims}
 use Rattle.master_core.proofs.InStep.{free_in_step}
 use Rattle.master_core.proofs.Merging.{free_is, free_there}
 use Rattle.master_core.proofs.Passing.{went}
-use Rattle.master_core.proofs.RecordPlaces.{OutThere, out_read, out_there}
+use Rattle.master_core.proofs.RecordPlaces.{IsOutAt, out_read, out_there}
 use Rattle.master_core.specs.Master.{is_spawn_out, state}
 use Rattle.master_core.specs.Messages.{on_decline}
 use Rattle.merge.specs.Withdrawal.{job_after_withdrawal}
@@ -13,7 +13,7 @@ use Rattle.master_core.proofs.master.Master.free.Goals as goal
 use Rattle.master_core.proofs.master.Master.free.Goals.{After-index_mut-record}
 
 -- the record, where it stands
-own : (c : After-index_mut-record) → OutThere c.self.inside.records.items c.args.spawn c.place_of.result c.index_mut-record.result.now
+own : (c : After-index_mut-record) → IsOutAt c.self.inside.records.items c.args.spawn c.place_of.result c.index_mut-record.result.now
 own c =
     let out : is_spawn_out c.self.inside.records.items c.args.spawn ≡ true = ap (λ rs. is_spawn_out rs c.args.spawn) (sym c.as_slice.ensures.value) ∙ sym c.is_spawn_out.ensures ∙ c.if-not-is_spawn_out.false in
     out_read c.self.inside.records.items c.args.spawn c.place_of.result c.index_mut-record.result.now c.self.invariant.kept.numbered c.place_of.ensures out c.index_mut-record.ensures.value

@@ -10,14 +10,14 @@ use Rattle.spawn.specs.declared.records.spawn_rec.SpawnRec.{SpawnRec}
 use Rattle.master_core.proofs.InStep.{put_in_step}
 use Rattle.master_core.proofs.Merging.{put_is, put_there}
 use Rattle.master_core.proofs.Passing.{failed, went}
-use Rattle.master_core.proofs.RecordPlaces.{OutThere, out_read, out_there}
+use Rattle.master_core.proofs.RecordPlaces.{IsOutAt, out_read, out_there}
 use Rattle.master_core.specs.Master.{State, is_spawn_out, record_of, state}
 use Rattle.master_core.specs.Messages.{on_return}
 use Rattle.master_core.proofs.master.Master.take_part.Goals as goal
 use Rattle.master_core.proofs.master.Master.take_part.Goals.{After-index_mut-record}
 
 -- the record, where it stands
-own : (c : After-index_mut-record) → OutThere c.self.inside.records.items c.args.part.spawn_id c.place_of.result c.index_mut-record.result.now
+own : (c : After-index_mut-record) → IsOutAt c.self.inside.records.items c.args.part.spawn_id c.place_of.result c.index_mut-record.result.now
 own c =
     let records = c.self.inside.records.items in
     let s = c.args.part.spawn_id in

@@ -23,39 +23,39 @@ use ticket_tree::{Duplicate, Id, Refusal};
 /// may stand a second value of it, on which its next step is made, so that what is shown stays
 /// until all is done that may fail.
 #[derive(Drop)]
-pub struct Station<C: StoredController> {
+pub struct MemorySeat<C: StoredController> {
     controller: C,
     text: Vec<u8>,
     twin: Option<C>,
 }
 
-impl<C: StoredController> Model for Station<C> {
-    ghost use Rattle.stored_state.specs.Station.{IsStation};
+impl<C: StoredController> Model for MemorySeat<C> {
+    ghost use Rattle.stored_state.specs.MemorySeat.{IsMemorySeat};
 
     ghost Value = { C };
 
-    ghost view = { λ station. station.controller };
+    ghost view = { λ seat. seat.controller };
 
-    ghost invariant = { λ station. IsStation C.state_data C.state_read
-        station.controller station.text.items station.twin };
+    ghost invariant = { λ seat. IsMemorySeat C.state_data C.state_read
+        seat.controller seat.text.items seat.twin };
 }
 
-impl<C: StoredController> Station<C> {
+impl<C: StoredController> MemorySeat<C> {
     /// That of a controller, which is started from the text of its state.
-    pub fn new(alloc: Global, controller: C) -> Result<Station<C>, AllocError>
-        ensures { IfOk result (λ station. station ≡ controller) }
+    pub fn new(alloc: Global, controller: C) -> Result<MemorySeat<C>, AllocError>
+        ensures { IfOk result (λ seat. seat ≡ controller) }
     {
-        let mut station = Station::without_twin(alloc, controller)?;
-        station.start_again(alloc)?;
-        Ok(station)
+        let mut seat = MemorySeat::without_twin(alloc, controller)?;
+        seat.start_again(alloc)?;
+        Ok(seat)
     }
 
     /// A controller beside the text of its state alone.
-    pub(crate) fn without_twin(alloc: Global, controller: C) -> Result<Station<C>, AllocError>
-        ensures { IfOk result (λ station. station ≡ controller) }
+    pub(crate) fn without_twin(alloc: Global, controller: C) -> Result<MemorySeat<C>, AllocError>
+        ensures { IfOk result (λ seat. seat ≡ controller) }
     {
         let text = controller.state_text(alloc)?;
-        Ok(Station {
+        Ok(MemorySeat {
             controller,
             text,
             twin: None,
@@ -116,7 +116,7 @@ impl<C: StoredController> Station<C> {
         next: C,
         outcome: Outcome,
         is_same: bool,
-    ) -> Result<(Option<Station<C>>, OrderBytes), AllocError>
+    ) -> Result<(Option<MemorySeat<C>>, OrderBytes), AllocError>
         requires sendable { IfSome outcome.answer (λ m. may_be_sent m.body ≡ true) }
         requires same { is_same ≡ true → next ≡ self.old }
         ensures next { IfOk result (λ made. unwrap_or made.0 self.old ≡ next) }
@@ -135,7 +135,7 @@ impl<C: StoredController> Station<C> {
             self.twin = Some(next);
             return Ok((None, OrderBytes { reply, message }));
         }
-        let next = Station::without_twin(alloc, next)?;
+        let next = MemorySeat::without_twin(alloc, next)?;
         Ok((Some(next), OrderBytes { reply, message }))
     }
 
@@ -146,7 +146,7 @@ impl<C: StoredController> Station<C> {
         alloc: Global,
         cause: StepInput<C::Order>,
         at: u64,
-    ) -> Result<(Option<Station<C>>, OrderBytes), AllocError>
+    ) -> Result<(Option<MemorySeat<C>>, OrderBytes), AllocError>
         ensures next { IfOk result (λ made. unwrap_or made.0 self.old
             ≡ (step_on C.order_step C.take_step cause at self.old).next) }
         ensures reply { IfOk result (λ made. made.1.reply
@@ -165,7 +165,7 @@ impl<C: StoredController> Station<C> {
 
     /// Stores what a step led to, stops, and is started again from the text of that. Where memory
     /// runs out nothing is changed.
-    fn stop_after(&mut self, alloc: Global, next: Option<Station<C>>) -> Result<(), AllocError>
+    fn stop_after(&mut self, alloc: Global, next: Option<MemorySeat<C>>) -> Result<(), AllocError>
         ensures ok { OnOk result (self.new ≡ unwrap_or next self.old) }
         ensures err { OnErr result (self.new ≡ self.old) }
     {
@@ -180,11 +180,11 @@ impl<C: StoredController> Station<C> {
     }
 
     /// Becomes the next, and gives the controller that it was.
-    fn become_next(&mut self, next: Station<C>) -> C
+    fn become_next(&mut self, next: MemorySeat<C>) -> C
         ensures next { self.new ≡ next }
         ensures before { result ≡ self.old }
     {
-        let Station {
+        let MemorySeat {
             controller,
             text,
             twin,
@@ -199,7 +199,7 @@ impl<C: StoredController> Station<C> {
     fn store(
         &mut self,
         alloc: Global,
-        next: Option<Station<C>>,
+        next: Option<MemorySeat<C>>,
         again: Option<StepInput<C::Order>>,
         at: u64,
     )
@@ -226,7 +226,7 @@ impl<C: StoredController> Station<C> {
     }
 }
 
-impl<C: StoredController> Seat<C> for Station<C>
+impl<C: StoredController> Seat<C> for MemorySeat<C>
 where
     C::Order: Duplicate,
 {
@@ -234,7 +234,7 @@ where
     ghost use Rattle.ticket_items.specs.declared.refusal.Refusal.TheVariants.{Memory};
     ghost use Rattle.streams.specs.declared.refused.Refused.TheVariants.{Core};
 
-    ghost kept = { λ station. station };
+    ghost kept = { λ seat. seat };
 
     ghost is_fresh = { λ _. true };
 
@@ -260,9 +260,9 @@ where
     ) -> Result<OrderBytes, Refused>
         // Proved: A controller beside the text of its state is a seat, at which a step that is
         // refused is never held; none is refused but for want of memory.
-        // By `reply`, `message`, `read`, `state`, `err`, `refused`; `Station::stop`: `reply`,
-        // `state`, `err`, `refused`; `Station::text`: `text`, `again`; `Station::new`,
-        // `Station::controller`.
+        // By `reply`, `message`, `read`, `state`, `err`, `refused`; `MemorySeat::stop`: `reply`,
+        // `state`, `err`, `refused`; `MemorySeat::text`: `text`, `again`; `MemorySeat::new`,
+        // `MemorySeat::controller`.
         ensures reply { IfOk result (λ given. given.reply
             ≡ (step_on C.order_step C.take_step cause at self.old).reply) }
         ensures message { IfOk result (λ given. option_map (λ b. b.items) given.message

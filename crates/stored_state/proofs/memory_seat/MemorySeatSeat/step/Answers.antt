@@ -1,7 +1,7 @@
 use Rattle.std.proofs.Common.{◌∙◌, ap, sym, unwrap_or}
 use Rattle.stored_state.proofs.OnceMore.{led_so}
 use Rattle.stored_state.specs.Cause.{led_to, once_more}
-use Rattle.stored_state.proofs.station.StationSeat.step.Goals as goal
+use Rattle.stored_state.proofs.memory_seat.MemorySeatSeat.step.Goals as goal
 
 pub store-requires : goal.store-requires
 store-requires g c =

@@ -12,7 +12,7 @@ pub record IsStateText {C : Type 0} (state_data : C → Data) (state_read : Data
   pub again : IsReadAs state_read text (Ok c)
 
 -- a controller beside the text of its state and a second value of it, if there is one
-pub record IsStation {C : Type 0} (state_data : C → Data) (state_read : Data → Result C Refusal)
+pub record IsMemorySeat {C : Type 0} (state_data : C → Data) (state_read : Data → Result C Refusal)
     (c : C) (text : List ℕ) (twin : Option C) : Type 0 where
   pub text_is : IsStateText state_data state_read text c
   pub same : IfSome twin (λ s. s ≡ c)
