@@ -6,13 +6,13 @@ use http_edge::{Counted, Served, receive, send, serve_one};
 use keepers::{Keep, Locks};
 use std::alloc::{AllocError, Global};
 use stored_state::{AnyKept, Kept, StoredController, open_any};
-use streams::{Refused, refused_line};
+use streams::Refused;
 
 /// Appends a line with the refusal of a request, if there was one, and one with the status of the
 /// response.
 fn push_served(alloc: Global, lines: &mut Vec<u8>, served: &Served) -> Result<(), AllocError> {
     if let Some(refused) = served.refusal {
-        lines.extend_from_slice(refused_line(refused).as_bytes())?;
+        lines.extend_from_slice(refused.line().as_bytes())?;
     }
     let status = served.status;
     lines.extend_from_slice(format!(in alloc; "status {status}\n")?.as_bytes())
@@ -113,6 +113,6 @@ pub fn exchange_answer<R: Locks>(
     match exchanged(rt, alloc, word.as_str(), words, case.input.as_slice()) {
         None => Ok(None),
         Some(Ok(answer)) => Ok(Some(answer)),
-        Some(Err(refused)) => Ok(Some(Vec::from_slice(alloc, refused_line(refused).as_bytes())?)),
+        Some(Err(refused)) => Ok(Some(Vec::from_slice(alloc, refused.line().as_bytes())?)),
     }
 }

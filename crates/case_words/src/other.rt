@@ -5,7 +5,7 @@ use crate::{calls, changers, files, forms, masters, places, states, trees, world
 use jmf_message::Message;
 use keepers::Locks;
 use std::alloc::{AllocError, Global};
-use streams::{Refused, refused_line};
+use streams::Refused;
 use ticket_tree::{Edit, Part, Ticket};
 
 /// What comes of a case whose first word the program doesn't have: a line, or the refusal's. None
@@ -21,7 +21,7 @@ pub fn other_answer<R: Locks>(
     match called(rt, alloc, word.as_str(), words, case.input.as_slice()) {
         None => Ok(None),
         Some(Ok(answer)) => Ok(Some(answer)),
-        Some(Err(refused)) => Ok(Some(Vec::from_slice(alloc, refused_line(refused).as_bytes())?)),
+        Some(Err(refused)) => Ok(Some(Vec::from_slice(alloc, refused.line().as_bytes())?)),
     }
 }
 

@@ -2,7 +2,7 @@
 use Rattle.std.specs.Prelude.{ℕ, Bool, false, true, List}
 use Rattle.std.specs.List.{flat_map, list_any}
 use Rattle.jdf_commands.specs.WorldCommand.Run as world_run
-use Rattle.streams.specs.Fault.{refused_line}
+use Rattle.streams.specs.Refused.{refused_line}
 use Rattle.streams.specs.declared.refused.Refused.TheVariants as refused
 use Rattle.jdf_loop.specs.declared.event_line.EventLine.{EventLine}
 use Rattle.jdf_loop.specs.declared.event_line.EventLine.TheVariants.{Answered, TooLarge}

@@ -10,7 +10,7 @@ use controller_form::push_shown;
 use jdf_commands::push_line;
 use master_core::Master;
 use std::alloc::{AllocError, Global};
-use streams::{Output, Refused, refused_line};
+use streams::{Output, Refused};
 use ticket_tree::Refusal;
 
 /// Appends the line of an event.
@@ -20,7 +20,7 @@ fn push_event_line(alloc: Global, text: &mut Vec<u8>, line: &EventLine) -> Resul
     match line {
         EventLine::Answered(answer) => push_line(alloc, text, answer),
         EventLine::TooLarge => {
-            text.extend_from_slice(refused_line(Refused::TooLarge).as_bytes())?;
+            text.extend_from_slice(Refused::TooLarge.line().as_bytes())?;
             Ok(())
         }
     }

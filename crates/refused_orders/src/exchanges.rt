@@ -5,7 +5,7 @@ use keepers::MemoryKeep;
 use std::alloc::{AllocError, Global};
 use std::io::{self, Write};
 use stored_state::{Kept, StoredController};
-use streams::{Refused, refused_line};
+use streams::Refused;
 
 /// How long a response may be.
 const ROOM: usize = 65_536;
@@ -54,7 +54,7 @@ fn write_responses<C: StoredController, W: Write>(
     let request = request(alloc, message)?;
     write_response(alloc, writer, kept, request.as_slice(), b"Prepared\n")?;
     if let Err(refused) = kept.reload(alloc) {
-        writer.write_all(refused_line(refused).as_bytes())?;
+        writer.write_all(refused.line().as_bytes())?;
     }
     write_response(alloc, writer, kept, request.as_slice(), b"")
 }
@@ -70,6 +70,6 @@ pub fn write_lines<C: StoredController, W: Write>(
     let opened: Result<Beside<C>, Refused> = Kept::open(alloc, keep);
     match opened {
         Ok(mut kept) => write_responses(alloc, writer, &mut kept, message),
-        Err(refused) => writer.write_all(refused_line(refused).as_bytes()),
+        Err(refused) => writer.write_all(refused.line().as_bytes()),
     }
 }

@@ -5,7 +5,7 @@ use keepers::MemoryKeep;
 use std::alloc::Global;
 use std::io::{self, Write};
 use stored_state::{Kept, OrderBytes, StoredController};
-use streams::{Refused, refused_line};
+use streams::Refused;
 use ticket_items::Refusal;
 
 /// A controller beside a keeper in memory.
@@ -16,7 +16,7 @@ fn given_line(given: OrderBytes) -> &'static str {
     let OrderBytes { reply, message } = given;
     drop(message);
     match reply {
-        Err(refusal) => refused_line(Refused::Core(refusal)),
+        Err(refusal) => Refused::Core(refusal).line(),
         Ok(_) => "Done\n",
     }
 }
@@ -24,7 +24,7 @@ fn given_line(given: OrderBytes) -> &'static str {
 /// The line for what comes of an order.
 fn told_line(told: Result<OrderBytes, Refused>) -> &'static str {
     match told {
-        Err(refused) => refused_line(refused),
+        Err(refused) => refused.line(),
         Ok(given) => given_line(given),
     }
 }
@@ -36,7 +36,7 @@ fn line_of<C: StoredController>(
     order: Result<C::Order, Refusal>,
 ) -> &'static str {
     match order {
-        Err(refusal) => refused_line(Refused::Core(refusal)),
+        Err(refusal) => Refused::Core(refusal).line(),
         Ok(order) => told_line(kept.order(alloc, order, 200)),
     }
 }
@@ -60,7 +60,7 @@ fn write_held<C: StoredController, W: Write>(
 ) -> io::Result<()> {
     match kept.reload(alloc) {
         Ok(()) => write_shown(alloc, writer, kept),
-        Err(refused) => writer.write_all(refused_line(refused).as_bytes()),
+        Err(refused) => writer.write_all(refused.line().as_bytes()),
     }
 }
 
@@ -95,7 +95,7 @@ fn write_lines_of<C: Ordered, W: Write>(
     writer.write_all(b"Prepared\n")?;
     let line = line_of(alloc, kept, order);
     writer.write_all(line.as_bytes())?;
-    if line == refused_line(Refused::Core(Refusal::Memory)) {
+    if line == Refused::Core(Refusal::Memory).line() {
         write_left(alloc, writer, kept, text)?;
     }
     write_held(alloc, writer, kept)
@@ -112,6 +112,6 @@ pub fn write_lines<C: Ordered, W: Write>(
     let opened: Result<Beside<C>, Refused> = Kept::open(alloc, keep);
     match opened {
         Ok(mut kept) => write_lines_of(alloc, writer, &mut kept, text),
-        Err(refused) => writer.write_all(refused_line(refused).as_bytes()),
+        Err(refused) => writer.write_all(refused.line().as_bytes()),
     }
 }

@@ -21,7 +21,6 @@ use json_source::{Scratch, tree_of};
 use master_core::Master;
 use std::alloc::Global;
 use std::io::{self, Read, Write};
-use streams::refusal_line;
 use ticket_items::Refusal;
 use worker_core::Worker;
 
@@ -52,11 +51,11 @@ fn write_lines<C: Controller, W: Write>(
             let prepared = writer.write_all(b"Prepared\n");
             let line = match controller.order(alloc, order, 200).err() {
                 None => "Done\n",
-                Some(refusal) => refusal_line(refusal),
+                Some(refusal) => refusal.line(),
             };
             prepared.and(writer.write_all(line.as_bytes()))
         }
-        Err(refusal) => writer.write_all(refusal_line(refusal).as_bytes()),
+        Err(refusal) => writer.write_all(refusal.line().as_bytes()),
     }
 }
 

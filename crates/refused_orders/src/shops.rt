@@ -2,7 +2,6 @@
 
 use std::alloc::{AllocError, Global};
 use std::io::{self, Write};
-use streams::refusal_line;
 use ticket_items::{Id, Ids, Refusal};
 use ticket_tree::Ticket;
 use world::World;
@@ -180,7 +179,7 @@ fn write_run<S: Shop, W: Write>(
         writer.write_all(b"Ran\n")?;
         return writer.write_all(lines.as_slice());
     }
-    writer.write_all(refusal_line(Refusal::Memory).as_bytes())?;
+    writer.write_all(Refusal::Memory.line().as_bytes())?;
     write_rest(alloc, writer, shop, text)
 }
 
@@ -193,7 +192,7 @@ fn write_rest<S: Shop, W: Write>(
 ) -> io::Result<()> {
     match lines_of_all(alloc, shop, text) {
         Ok(lines) => writer.write_all(lines.as_slice()),
-        Err(refusal) => writer.write_all(refusal_line(refusal).as_bytes()),
+        Err(refusal) => writer.write_all(refusal.line().as_bytes()),
     }
 }
 
@@ -204,7 +203,7 @@ const ROOM: usize = 65_536;
 fn write_in<S: Shop, W: Write>(alloc: Global, writer: &mut W, text: &[u8]) -> io::Result<()> {
     match begun::<S>(alloc, text) {
         Ok((mut shop, events)) => write_run(alloc, writer, &mut shop, events, text),
-        Err(refusal) => writer.write_all(refusal_line(refusal).as_bytes()),
+        Err(refusal) => writer.write_all(refusal.line().as_bytes()),
     }
 }
 

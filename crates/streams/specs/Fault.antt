@@ -1,9 +1,8 @@
 -- The faults: what is told of each, and the exit status that it leaves.
-use Rattle.std.specs.Prelude.{ℕ, List, [], ◌∷◌, ◌++◌, codes, decimal}
+use Rattle.std.specs.Prelude.{ℕ, List}
 use Rattle.ticket_items.specs.declared.refusal.Refusal.{Refusal}
 use Rattle.ticket_items.specs.declared.refusal.Refusal.TheVariants.{Memory}
-use Rattle.ticket_items.specs.Refusal as core
-use Rattle.streams.specs.Refused.{number_of, name_of}
+use Rattle.streams.specs.Refused.{refused_line}
 use Rattle.streams.specs.declared.refused.Refused.{Refused}
 use Rattle.streams.specs.declared.refused.Refused.TheVariants.{Core}
 use Rattle.streams.specs.declared.fault.Fault.{Fault}
@@ -22,17 +21,6 @@ refused_status status _ = status
 abbrev pub fault_status : Fault → ℕ
 fault_status (Input e) = refused_status 3 e
 fault_status (Device e) = refused_status 4 e
-
--- the line of a number and a name
-abbrev pub line_of : ℕ → List ℕ → List ℕ
-line_of number name = codes "Refused " ++ decimal number ++ codes " " ++ name ++ 10 ∷ []
-
--- the line of a core's refusal, and of a call's
-abbrev pub refusal_line : Refusal → List ℕ
-refusal_line r = line_of (core.number_of r) (core.name_of r)
-
-abbrev pub refused_line : Refused → List ℕ
-refused_line r = line_of (number_of r) (name_of r)
 
 -- the line that tells a fault
 abbrev pub fault_line : Fault → List ℕ

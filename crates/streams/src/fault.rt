@@ -4,7 +4,6 @@ ghost use Rattle.streams.specs.Fault as faults;
 ghost use Rattle.streams.specs.declared.fault.Fault.TheVariants.{Input};
 ghost use Rattle.ticket_items.specs.declared.refusal.Refusal.TheVariants.{Memory};
 
-use crate::line::refused_line;
 use crate::refused::Refused;
 use std::alloc::{AllocError, AllocFailed};
 use ticket_items::Refusal;
@@ -35,11 +34,12 @@ impl Fault {
     /// The line that tells the fault: its number and its name.
     pub fn line(&self) -> &'static str
         // Proved: Each fault has its line and status.
-        // By `Fault::status`, `refusal_line`, `refused_line`, `Refused::number`, `Refused::name`.
+        // By `Fault::status`, `Refused::number`, `Refused::name`, `Refused::line`; `Refused::row`:
+        // `number`, `name`, `line`.
         ensures { result.now ≡ faults.fault_line self.now }
     {
         match self {
-            Fault::Input(refused) | Fault::Device(refused) => refused_line(*refused),
+            Fault::Input(refused) | Fault::Device(refused) => refused.line(),
         }
     }
 }

@@ -1,7 +1,8 @@
 use std::alloc::AllocError;
 use std::error::Error;
 use std::fmt;
-use ticket_items::Refusal;
+use ticket_items::refusal_row::row;
+use ticket_items::{Refusal, RefusalRow};
 
 /// Why a call over bytes, files or connections was refused. Each has a number and a name, which are
 /// our own profile's.
@@ -43,50 +44,50 @@ impl Refused {
     ghost use Rattle.std.specs.Prelude.{◌≡◌};
     ghost use Rattle.streams.specs.Refused as refusals;
 
+    /// Its row: the number, the name and the line.
+    pub fn row(self) -> RefusalRow
+        ensures number { result.number ≡ refusals.number_of self }
+        ensures name { result.name.now ≡ refusals.name_of self }
+        ensures line { result.line.now ≡ refusals.refused_line self }
+    {
+        match self {
+            Refused::Core(refusal) => refusal.row(),
+            Refused::BadHead => row(50, "BadHead", "Refused 50 BadHead\n"),
+            Refused::NotPost => row(51, "NotPost", "Refused 51 NotPost\n"),
+            Refused::NoLength => row(52, "NoLength", "Refused 52 NoLength\n"),
+            Refused::TooLarge => row(53, "TooLarge", "Refused 53 TooLarge\n"),
+            Refused::CutShort => row(54, "CutShort", "Refused 54 CutShort\n"),
+            Refused::ReadFailed => row(55, "ReadFailed", "Refused 55 ReadFailed\n"),
+            Refused::WriteFailed => row(56, "WriteFailed", "Refused 56 WriteFailed\n"),
+            Refused::SaveFailed => row(57, "SaveFailed", "Refused 57 SaveFailed\n"),
+            Refused::Stale => row(58, "Stale", "Refused 58 Stale\n"),
+            Refused::LoadFailed => row(59, "LoadFailed", "Refused 59 LoadFailed\n"),
+            Refused::Coding => row(60, "Coding", "Refused 60 Coding\n"),
+            Refused::NoConnection => row(61, "NoConnection", "Refused 61 NoConnection\n"),
+            Refused::OtherName => row(62, "OtherName", "Refused 62 OtherName\n"),
+            Refused::Forbidden => row(63, "Forbidden", "Refused 63 Forbidden\n"),
+        }
+    }
+
     /// Its number.
     pub fn number(self) -> u16
         ensures { result ≡ refusals.number_of self }
     {
-        match self {
-            Refused::Core(refusal) => refusal.number(),
-            Refused::BadHead => 50,
-            Refused::NotPost => 51,
-            Refused::NoLength => 52,
-            Refused::TooLarge => 53,
-            Refused::CutShort => 54,
-            Refused::ReadFailed => 55,
-            Refused::WriteFailed => 56,
-            Refused::SaveFailed => 57,
-            Refused::Stale => 58,
-            Refused::LoadFailed => 59,
-            Refused::Coding => 60,
-            Refused::NoConnection => 61,
-            Refused::OtherName => 62,
-            Refused::Forbidden => 63,
-        }
+        self.row().number
     }
 
     /// Its name.
     pub fn name(self) -> &'static str
         ensures { result.now ≡ refusals.name_of self }
     {
-        match self {
-            Refused::Core(refusal) => refusal.name(),
-            Refused::BadHead => "BadHead",
-            Refused::NotPost => "NotPost",
-            Refused::NoLength => "NoLength",
-            Refused::TooLarge => "TooLarge",
-            Refused::CutShort => "CutShort",
-            Refused::ReadFailed => "ReadFailed",
-            Refused::WriteFailed => "WriteFailed",
-            Refused::SaveFailed => "SaveFailed",
-            Refused::Stale => "Stale",
-            Refused::LoadFailed => "LoadFailed",
-            Refused::Coding => "Coding",
-            Refused::NoConnection => "NoConnection",
-            Refused::OtherName => "OtherName",
-            Refused::Forbidden => "Forbidden",
-        }
+        self.row().name
+    }
+
+    /// The line that tells it: its number and its name. It needs no memory.
+    pub fn line(self) -> &'static str
+        ensures { result.now ≡ refusals.refused_line self }
+    {
+        self.row().line
     }
 }
 

@@ -1,79 +1,57 @@
--- The number and the name of each refusal, and the spawn that one tells of.
-use Rattle.std.specs.Prelude.{ℕ, List, codes, Option, Some, None}
+-- The number and the name of each refusal, its line, and the spawn that one tells of.
+use Rattle.std.specs.Prelude.{ℕ, List, [], ◌∷◌, ◌++◌, codes, decimal, Option, Some, None}
 use Rattle.ticket_items.specs.declared.refusal.Refusal.{Refusal}
 use Rattle.ticket_items.specs.declared.refusal.Refusal.TheVariants as refusals
 
+-- the table: of each its number and its name
+abbrev pub row_of : Refusal → ℕ × List ℕ
+row_of refusals.BadId = (1, codes "BadId")
+row_of refusals.DuplicateId = (2, codes "DuplicateId")
+row_of refusals.UnresolvedLink = (3, codes "UnresolvedLink")
+row_of refusals.TooDeep = (4, codes "TooDeep")
+row_of refusals.ReservedStatus = (5, codes "ReservedStatus")
+row_of refusals.BadText = (6, codes "BadText")
+row_of refusals.NotATree = (7, codes "NotATree")
+row_of refusals.UnknownNode = (10, codes "UnknownNode")
+row_of refusals.UnknownResource = (11, codes "UnknownResource")
+row_of (refusals.NotHeld s) = (12, codes "NotHeld")
+row_of refusals.IsRoot = (13, codes "IsRoot")
+row_of refusals.NotLinked = (14, codes "NotLinked")
+row_of refusals.UnknownWorker = (15, codes "UnknownWorker")
+row_of refusals.NotOut = (16, codes "NotOut")
+row_of refusals.TooManySpawns = (17, codes "TooManySpawns")
+row_of refusals.SameName = (18, codes "SameName")
+row_of refusals.UnknownSpawn = (20, codes "UnknownSpawn")
+row_of refusals.WrongSender = (21, codes "WrongSender")
+row_of refusals.WrongShape = (22, codes "WrongShape")
+row_of refusals.UnknownEntry = (30, codes "UnknownEntry")
+row_of refusals.NotOpen = (31, codes "NotOpen")
+row_of refusals.ReadOnly = (32, codes "ReadOnly")
+row_of refusals.NotInPart = (33, codes "NotInPart")
+row_of refusals.NotForWorkers = (34, codes "NotForWorkers")
+row_of refusals.NotDone = (35, codes "NotDone")
+row_of refusals.BadPart = (36, codes "BadPart")
+row_of refusals.Acknowledged = (37, codes "Acknowledged")
+row_of refusals.Declined = (38, codes "Declined")
+row_of refusals.NotJson = (40, codes "NotJson")
+row_of refusals.NotProfile = (41, codes "NotProfile")
+row_of refusals.WrongMessage = (45, codes "WrongMessage")
+row_of refusals.WrongVersion = (46, codes "WrongVersion")
+row_of refusals.BadState = (47, codes "BadState")
+row_of refusals.Memory = (90, codes "Memory")
+
 abbrev pub number_of : Refusal → ℕ
-number_of refusals.BadId = 1
-number_of refusals.DuplicateId = 2
-number_of refusals.UnresolvedLink = 3
-number_of refusals.TooDeep = 4
-number_of refusals.ReservedStatus = 5
-number_of refusals.BadText = 6
-number_of refusals.NotATree = 7
-number_of refusals.UnknownNode = 10
-number_of refusals.UnknownResource = 11
-number_of (refusals.NotHeld s) = 12
-number_of refusals.IsRoot = 13
-number_of refusals.NotLinked = 14
-number_of refusals.UnknownWorker = 15
-number_of refusals.NotOut = 16
-number_of refusals.TooManySpawns = 17
-number_of refusals.SameName = 18
-number_of refusals.UnknownSpawn = 20
-number_of refusals.WrongSender = 21
-number_of refusals.WrongShape = 22
-number_of refusals.UnknownEntry = 30
-number_of refusals.NotOpen = 31
-number_of refusals.ReadOnly = 32
-number_of refusals.NotInPart = 33
-number_of refusals.NotForWorkers = 34
-number_of refusals.NotDone = 35
-number_of refusals.BadPart = 36
-number_of refusals.Acknowledged = 37
-number_of refusals.Declined = 38
-number_of refusals.NotJson = 40
-number_of refusals.NotProfile = 41
-number_of refusals.WrongMessage = 45
-number_of refusals.WrongVersion = 46
-number_of refusals.BadState = 47
-number_of refusals.Memory = 90
+number_of e = (row_of e).0
 
 abbrev pub name_of : Refusal → List ℕ
-name_of refusals.BadId = codes "BadId"
-name_of refusals.DuplicateId = codes "DuplicateId"
-name_of refusals.UnresolvedLink = codes "UnresolvedLink"
-name_of refusals.TooDeep = codes "TooDeep"
-name_of refusals.ReservedStatus = codes "ReservedStatus"
-name_of refusals.BadText = codes "BadText"
-name_of refusals.NotATree = codes "NotATree"
-name_of refusals.UnknownNode = codes "UnknownNode"
-name_of refusals.UnknownResource = codes "UnknownResource"
-name_of (refusals.NotHeld s) = codes "NotHeld"
-name_of refusals.IsRoot = codes "IsRoot"
-name_of refusals.NotLinked = codes "NotLinked"
-name_of refusals.UnknownWorker = codes "UnknownWorker"
-name_of refusals.NotOut = codes "NotOut"
-name_of refusals.TooManySpawns = codes "TooManySpawns"
-name_of refusals.SameName = codes "SameName"
-name_of refusals.UnknownSpawn = codes "UnknownSpawn"
-name_of refusals.WrongSender = codes "WrongSender"
-name_of refusals.WrongShape = codes "WrongShape"
-name_of refusals.UnknownEntry = codes "UnknownEntry"
-name_of refusals.NotOpen = codes "NotOpen"
-name_of refusals.ReadOnly = codes "ReadOnly"
-name_of refusals.NotInPart = codes "NotInPart"
-name_of refusals.NotForWorkers = codes "NotForWorkers"
-name_of refusals.NotDone = codes "NotDone"
-name_of refusals.BadPart = codes "BadPart"
-name_of refusals.Acknowledged = codes "Acknowledged"
-name_of refusals.Declined = codes "Declined"
-name_of refusals.NotJson = codes "NotJson"
-name_of refusals.NotProfile = codes "NotProfile"
-name_of refusals.WrongMessage = codes "WrongMessage"
-name_of refusals.WrongVersion = codes "WrongVersion"
-name_of refusals.BadState = codes "BadState"
-name_of refusals.Memory = codes "Memory"
+name_of e = (row_of e).1
+
+-- the line of a number and a name, and so of a refusal
+abbrev pub line_of : ℕ → List ℕ → List ℕ
+line_of number name = codes "Refused " ++ decimal number ++ codes " " ++ name ++ 10 ∷ []
+
+abbrev pub refusal_line : Refusal → List ℕ
+refusal_line e = line_of (number_of e) (name_of e)
 
 -- the spawn that holds what was to be changed or spawned
 abbrev pub holder_of : Refusal → Option ℕ

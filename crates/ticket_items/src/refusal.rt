@@ -1,3 +1,4 @@
+use crate::refusal_row::{RefusalRow, row};
 use crate::spawn_id::SpawnId;
 use std::alloc::{AllocError, AllocFailed};
 use std::error::Error;
@@ -83,91 +84,73 @@ impl Refusal {
     ghost use Rattle.std.specs.Prelude.{◌≡◌};
     ghost use Rattle.ticket_items.specs.Refusal as refusals;
 
-    /// The refusal's number.
-    pub fn number(self) -> u16
-        // Proved: Each refusal has its number and name, and one of what a spawn holds tells that
-        // spawn.
-        // By `Refusal::name`, `Refusal::holder`.
-        ensures { result ≡ refusals.number_of self }
+    /// Its row: the number, the name and the line.
+    pub fn row(self) -> RefusalRow
+        ensures number { result.number ≡ refusals.number_of self }
+        ensures name { result.name.now ≡ refusals.name_of self }
+        ensures line { result.line.now ≡ refusals.refusal_line self }
     {
         match self {
-            Refusal::BadId => 1,
-            Refusal::DuplicateId => 2,
-            Refusal::UnresolvedLink => 3,
-            Refusal::TooDeep => 4,
-            Refusal::ReservedStatus => 5,
-            Refusal::BadText => 6,
-            Refusal::NotATree => 7,
-            Refusal::UnknownNode => 10,
-            Refusal::UnknownResource => 11,
-            Refusal::NotHeld(_) => 12,
-            Refusal::IsRoot => 13,
-            Refusal::NotLinked => 14,
-            Refusal::UnknownWorker => 15,
-            Refusal::NotOut => 16,
-            Refusal::TooManySpawns => 17,
-            Refusal::SameName => 18,
-            Refusal::UnknownSpawn => 20,
-            Refusal::WrongSender => 21,
-            Refusal::WrongShape => 22,
-            Refusal::UnknownEntry => 30,
-            Refusal::NotOpen => 31,
-            Refusal::ReadOnly => 32,
-            Refusal::NotInPart => 33,
-            Refusal::NotForWorkers => 34,
-            Refusal::NotDone => 35,
-            Refusal::BadPart => 36,
-            Refusal::Acknowledged => 37,
-            Refusal::Declined => 38,
-            Refusal::NotJson => 40,
-            Refusal::NotProfile => 41,
-            Refusal::WrongMessage => 45,
-            Refusal::WrongVersion => 46,
-            Refusal::BadState => 47,
-            Refusal::Memory => 90,
+            Refusal::BadId => row(1, "BadId", "Refused 1 BadId\n"),
+            Refusal::DuplicateId => row(2, "DuplicateId", "Refused 2 DuplicateId\n"),
+            Refusal::UnresolvedLink => row(3, "UnresolvedLink", "Refused 3 UnresolvedLink\n"),
+            Refusal::TooDeep => row(4, "TooDeep", "Refused 4 TooDeep\n"),
+            Refusal::ReservedStatus => row(5, "ReservedStatus", "Refused 5 ReservedStatus\n"),
+            Refusal::BadText => row(6, "BadText", "Refused 6 BadText\n"),
+            Refusal::NotATree => row(7, "NotATree", "Refused 7 NotATree\n"),
+            Refusal::UnknownNode => row(10, "UnknownNode", "Refused 10 UnknownNode\n"),
+            Refusal::UnknownResource => row(11, "UnknownResource", "Refused 11 UnknownResource\n"),
+            Refusal::NotHeld(_) => row(12, "NotHeld", "Refused 12 NotHeld\n"),
+            Refusal::IsRoot => row(13, "IsRoot", "Refused 13 IsRoot\n"),
+            Refusal::NotLinked => row(14, "NotLinked", "Refused 14 NotLinked\n"),
+            Refusal::UnknownWorker => row(15, "UnknownWorker", "Refused 15 UnknownWorker\n"),
+            Refusal::NotOut => row(16, "NotOut", "Refused 16 NotOut\n"),
+            Refusal::TooManySpawns => row(17, "TooManySpawns", "Refused 17 TooManySpawns\n"),
+            Refusal::SameName => row(18, "SameName", "Refused 18 SameName\n"),
+            Refusal::UnknownSpawn => row(20, "UnknownSpawn", "Refused 20 UnknownSpawn\n"),
+            Refusal::WrongSender => row(21, "WrongSender", "Refused 21 WrongSender\n"),
+            Refusal::WrongShape => row(22, "WrongShape", "Refused 22 WrongShape\n"),
+            Refusal::UnknownEntry => row(30, "UnknownEntry", "Refused 30 UnknownEntry\n"),
+            Refusal::NotOpen => row(31, "NotOpen", "Refused 31 NotOpen\n"),
+            Refusal::ReadOnly => row(32, "ReadOnly", "Refused 32 ReadOnly\n"),
+            Refusal::NotInPart => row(33, "NotInPart", "Refused 33 NotInPart\n"),
+            Refusal::NotForWorkers => row(34, "NotForWorkers", "Refused 34 NotForWorkers\n"),
+            Refusal::NotDone => row(35, "NotDone", "Refused 35 NotDone\n"),
+            Refusal::BadPart => row(36, "BadPart", "Refused 36 BadPart\n"),
+            Refusal::Acknowledged => row(37, "Acknowledged", "Refused 37 Acknowledged\n"),
+            Refusal::Declined => row(38, "Declined", "Refused 38 Declined\n"),
+            Refusal::NotJson => row(40, "NotJson", "Refused 40 NotJson\n"),
+            Refusal::NotProfile => row(41, "NotProfile", "Refused 41 NotProfile\n"),
+            Refusal::WrongMessage => row(45, "WrongMessage", "Refused 45 WrongMessage\n"),
+            Refusal::WrongVersion => row(46, "WrongVersion", "Refused 46 WrongVersion\n"),
+            Refusal::BadState => row(47, "BadState", "Refused 47 BadState\n"),
+            Refusal::Memory => row(90, "Memory", "Refused 90 Memory\n"),
         }
+    }
+
+    /// The refusal's number.
+    pub fn number(self) -> u16
+        // Proved: Each refusal has its number, its name and its line, and one of what a spawn holds
+        // tells that spawn.
+        // By `Refusal::name`, `Refusal::line`, `Refusal::holder`; `Refusal::row`: `number`, `name`,
+        // `line`; `refusal_row::row`: `number`, `name`, `line`.
+        ensures { result ≡ refusals.number_of self }
+    {
+        self.row().number
     }
 
     /// The refusal's name.
     pub fn name(self) -> &'static str
         ensures { result.now ≡ refusals.name_of self }
     {
-        match self {
-            Refusal::BadId => "BadId",
-            Refusal::DuplicateId => "DuplicateId",
-            Refusal::UnresolvedLink => "UnresolvedLink",
-            Refusal::TooDeep => "TooDeep",
-            Refusal::ReservedStatus => "ReservedStatus",
-            Refusal::BadText => "BadText",
-            Refusal::NotATree => "NotATree",
-            Refusal::UnknownNode => "UnknownNode",
-            Refusal::UnknownResource => "UnknownResource",
-            Refusal::NotHeld(_) => "NotHeld",
-            Refusal::IsRoot => "IsRoot",
-            Refusal::NotLinked => "NotLinked",
-            Refusal::UnknownWorker => "UnknownWorker",
-            Refusal::NotOut => "NotOut",
-            Refusal::TooManySpawns => "TooManySpawns",
-            Refusal::SameName => "SameName",
-            Refusal::UnknownSpawn => "UnknownSpawn",
-            Refusal::WrongSender => "WrongSender",
-            Refusal::WrongShape => "WrongShape",
-            Refusal::UnknownEntry => "UnknownEntry",
-            Refusal::NotOpen => "NotOpen",
-            Refusal::ReadOnly => "ReadOnly",
-            Refusal::NotInPart => "NotInPart",
-            Refusal::NotForWorkers => "NotForWorkers",
-            Refusal::NotDone => "NotDone",
-            Refusal::BadPart => "BadPart",
-            Refusal::Acknowledged => "Acknowledged",
-            Refusal::Declined => "Declined",
-            Refusal::NotJson => "NotJson",
-            Refusal::NotProfile => "NotProfile",
-            Refusal::WrongMessage => "WrongMessage",
-            Refusal::WrongVersion => "WrongVersion",
-            Refusal::BadState => "BadState",
-            Refusal::Memory => "Memory",
-        }
+        self.row().name
+    }
+
+    /// The line that tells the refusal: its number and its name. It needs no memory.
+    pub fn line(self) -> &'static str
+        ensures { result.now ≡ refusals.refusal_line self }
+    {
+        self.row().line
     }
 
     /// The spawn that holds what was to be changed or spawned, where that is why.

@@ -6,8 +6,7 @@ use Rattle.std.specs.List.{All, flat_map}
 use Rattle.std.specs.Str.{IsUtf8}
 use Rattle.serde_json.specs.Data.{Data}
 use Rattle.serde_json.specs.Read.{read}
-use Rattle.streams.specs.Fault.{refusal_line}
-use Rattle.ticket_items.specs.Refusal.{name_of, number_of}
+use Rattle.ticket_items.specs.Refusal.{name_of, number_of, refusal_line}
 use Rattle.ticket_items.specs.declared.refusal.Refusal.{Refusal}
 use Rattle.ticket_items.specs.declared.refusal.Refusal.TheVariants.{Memory}
 use Rattle.fault_finder.specs.declared.kind.Kind.{Kind}

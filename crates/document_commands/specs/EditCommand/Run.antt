@@ -11,7 +11,7 @@ use Rattle.ticket_items.specs.declared.refusal.Refusal.TheVariants.{Memory}
 use Rattle.json_text.specs.Written.{ticket_data}
 use Rattle.document_commands.specs.EditCommand.Document.{IsReadAs}
 use Rattle.document_commands.specs.declared.edit_command.document.Document.{Document}
-use Rattle.streams.specs.Fault.{refusal_line}
+use Rattle.ticket_items.specs.Refusal.{refusal_line}
 use Rattle.streams.specs.Ends.{done_status}
 
 -- ---- one edit

@@ -11,7 +11,7 @@ use fault_finder::{Kind, Place, places_of};
 use json_source::{Scratch, tree_of};
 use refusal_rows::named_number;
 use std::alloc::{AllocError, Global};
-use streams::{Output, refusal_line};
+use streams::Output;
 use ticket_tree::Refusal;
 
 /// How many places of a refusal are told at most.
@@ -79,7 +79,7 @@ fn refused_lines(alloc: Global, refusal: &Refusal, places: &[Place]) -> Result<V
 {
     let mut text = Vec::new(alloc);
     if places.is_empty() {
-        text.extend_from_slice(refusal_line(*refusal).as_bytes())?;
+        text.extend_from_slice(refusal.line().as_bytes())?;
     } else {
         push_places(alloc, &mut text, refusal, places)?;
     }

@@ -5,7 +5,6 @@ ghost use Rattle.std.specs.Result.{result_err};
 ghost use Rattle.document_commands.specs.EditCommand.Run as run;
 
 use std::alloc::{AllocError, Global};
-use streams::refusal_line;
 use ticket_tree::{Edit, Refusal, Ticket};
 
 /// The line of an edit that was done.
@@ -18,7 +17,7 @@ fn push_line(text: &mut Vec<u8>, outcome: &Result<(), Refusal>) -> Result<(), Al
 {
     match outcome {
         Ok(()) => text.extend_from_slice(EDITED.as_bytes()),
-        Err(refusal) => text.extend_from_slice(refusal_line(*refusal).as_bytes()),
+        Err(refusal) => text.extend_from_slice(refusal.line().as_bytes()),
     }
 }
 
