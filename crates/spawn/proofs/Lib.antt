@@ -22,6 +22,7 @@ pub mod LinkedOutside
 pub mod Chosen
 pub mod NewRecord
 pub mod PartKept
+pub mod Spawned
 pub mod PartStays
 pub mod Lawful
 pub mod KeptApart

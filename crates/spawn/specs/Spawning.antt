@@ -1,5 +1,6 @@
 -- A spawn: why it is refused, and what it makes of the ticket and of the records.
-use Rattle.std.specs.Prelude.{ℕ, List, [], ◌∷◌, map, Option, is_some, slice_get}
+use Rattle.std.specs.Prelude.{◌≡◌, ◌++◌, ℕ, List, [], ◌∷◌, map, Option, is_some, slice_get}
+use Rattle.std.specs.Prelude.{Result, Err, IfSome, IfNone, IfOk, IfErr, OnOk, OnErr}
 use Rattle.std.specs.List.{filter_map, list_all}
 use Rattle.std.specs.Option.{option_map, option_map_or}
 use Rattle.ticket_rows.specs.Homes.{has_resource}
@@ -14,9 +15,11 @@ use Rattle.ticket_items.specs.declared.node_row.NodeRow.{NodeRow}
 use Rattle.ticket_items.specs.declared.refusal.Refusal.{Refusal}
 use Rattle.ticket_items.specs.declared.refusal.Refusal.TheVariants.{UnknownNode, IsRoot}
 use Rattle.ticket_items.specs.declared.refusal.Refusal.TheVariants.{UnknownResource, NotLinked}
-use Rattle.ticket_items.specs.declared.refusal.Refusal.TheVariants.{NotHeld, TooManySpawns}
+use Rattle.ticket_items.specs.declared.refusal.Refusal.TheVariants.{Memory, NotHeld, TooManySpawns}
+use Rattle.ticket_tree.specs.Part.{PartCopy}
 use Rattle.plain_shop.specs.Claim.{ids_of, claim, linked_outside, linked_rw, linked_ro}
-use Rattle.spawn.specs.Parts.{resources_among}
+use Rattle.spawn.specs.Parts.{part_for, resources_among}
+use Rattle.spawn.specs.Records.{IsGood}
 use Rattle.spawn.specs.Table.{holding_record}
 use Rattle.spawn.specs.declared.records.phase.Phase.TheVariants.{Out}
 use Rattle.spawn.specs.declared.records.spawn_rec.SpawnRec.{SpawnRec}
@@ -74,3 +77,24 @@ spawned_audit rows r =
 -- the ticket after a spawn: its audit stands last at the node's parent
 abbrev pub job_after_spawn : Job → SpawnRec → Job
 job_after_spawn t r = record t { rows = rows_with_audit (parent_of t.rows r.node) (spawned_audit t.rows r) t.rows }
+
+-- ---- a spawn, done or refused
+
+-- a spawn by a new record, unless something is against it: its result, and the ticket and the
+-- records before and after
+pub record Spawns (why : Option Refusal) (r : SpawnRec) (old : Job) (before : List SpawnRec)
+    (result : Result (ℕ × PartCopy) Refusal) (new : Job) (after : List SpawnRec) : Type 0 where
+  -- the ticket tells of a spawn, and its record is the last
+  pub ticket : OnOk result (new ≡ job_after_spawn old r)
+  pub records : OnOk result (after ≡ before ++ r ∷ [])
+  -- its number is answered, with its part of the ticket that tells of it
+  pub id : IfOk result (λ s. s.0 ≡ r.id)
+  pub part : IfOk result (λ s. s.1 ≡ part_for new r)
+  -- the record is good there
+  pub good : OnOk result (IsGood new.rows r)
+  -- what is against it refuses it; where nothing is, the want of memory alone does
+  pub refused : IfSome why (λ e. result ≡ Err e)
+  pub memory : IfNone why (IfErr result (λ e. e ≡ Memory))
+  -- a refusal changes neither the ticket nor the records
+  pub ticket_stays : OnErr result (new ≡ old)
+  pub records_stay : OnErr result (after ≡ before)

@@ -1,8 +1,6 @@
 //! Spawning beside the table of holders.
 
-ghost use Rattle.std.specs.Prelude.{◌≡◌, ◌++◌, ◌∷◌, [], IfSome, IfNone, IfOk, IfErr, OnOk, OnErr};
 ghost use Rattle.spawn.specs.Holdings.{IsTable};
-ghost use Rattle.spawn.specs.Parts as parts;
 ghost use Rattle.spawn.specs.Spawning as spawning;
 ghost use Rattle.spawn.specs.Spawning.{spawn_refusal};
 
@@ -30,24 +28,12 @@ pub fn spawn_by_table(
     requires table { IsTable ticket.old.rows records.old.items holders.old }
     // Proved: A spawn beside the table is the same spawn, and leaves the table that of what it
     // made, or of what it left.
-    // By `ticket`, `records`, `table`, `id`, `part`, `refused`, `memory`, `ticket_stays`,
-    // `records_stay`.
-    ensures ticket { OnOk result (ticket.new
-        ≡ spawning.job_after_spawn ticket.old
-        (spawning.new_record ticket.old.rows number node worker rw at)) }
-    ensures records { OnOk result (records.new.items
-        ≡ records.old.items ++ spawning.new_record ticket.old.rows number node worker rw at ∷ []) }
+    // By `spawns`, `table`.
+    ensures spawns { spawning.Spawns
+        (spawn_refusal ticket.old.rows records.old.items number node rw)
+        (spawning.new_record ticket.old.rows number node worker rw at)
+        ticket.old records.old.items result ticket.new records.new.items }
     ensures table { IsTable ticket.new.rows records.new.items holders.new }
-    ensures id { IfOk result (λ s. s.0 ≡ number) }
-    ensures part { IfOk result (λ s. s.1
-        ≡ parts.part_for ticket.new
-        (spawning.new_record ticket.old.rows number node worker rw at)) }
-    ensures refused { IfSome (spawn_refusal ticket.old.rows records.old.items number node rw)
-        (λ e. result ≡ Err e) }
-    ensures memory { IfNone (spawn_refusal ticket.old.rows records.old.items number node rw)
-        (IfErr result (λ e. e ≡ Refusal.Memory)) }
-    ensures ticket_stays { OnErr result (ticket.new ≡ ticket.old) }
-    ensures records_stay { OnErr result (records.new.items ≡ records.old.items) }
 {
     let others = records.as_slice();
     check_spawn(ticket, others, Some(holders), number, &node, rw.as_slice())?;

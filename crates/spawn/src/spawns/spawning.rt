@@ -1,7 +1,7 @@
 //! Spawning a node.
 
-ghost use Rattle.std.specs.Prelude.{◌≡◌, ◌-◌, ◌++◌, ◌∷◌, [], true, length, map, slice_get, Some};
-ghost use Rattle.std.specs.Prelude.{None, is_some, IfSome, IfNone, IfOk, IfErr, OnOk, OnErr};
+ghost use Rattle.std.specs.Prelude.{◌≡◌, ◌-◌, true, length, map, slice_get, Some, None, is_some};
+ghost use Rattle.std.specs.Prelude.{IfOk, IfErr, OnOk, OnErr};
 ghost use Rattle.std.specs.Option.{option_map};
 ghost use Rattle.ticket_rows.specs.OneRow.{rows_with_audit};
 ghost use Rattle.ticket_rows.specs.Place.{node_places, up};
@@ -160,8 +160,8 @@ fn hold(
     }
 }
 
-/// Puts the record of a spawn of a node that stands below another last among the records, and its
-/// audit last at the parent, gives it what it claims, and answers its part.
+/// Spawns a node that stands below another by a number, and gives the spawn what it claims, which
+/// none holds.
 fn enter(
     alloc: Global,
     ticket: &mut Ticket,
@@ -172,30 +172,24 @@ fn enter(
     worker: Id,
     rw: &[Id],
     at: u64,
-) -> Result<Part, Refusal>
+) -> Result<(SpawnId, Part), Refusal>
     requires known { has_node ticket.old.rows node ≡ true }
     requires parent { is_some (up (node_places ticket.old.rows) node) ≡ true }
     requires free { IsFree (claims ticket.old.rows
         (spawning.new_record ticket.old.rows id node worker rw.now at)) holders.old }
-    ensures ticket { OnOk result (ticket.new ≡ spawning.job_after_spawn ticket.old
-        (spawning.new_record ticket.old.rows id node worker rw.now at)) }
+    ensures spawns { spawning.Spawns None
+        (spawning.new_record ticket.old.rows id node worker rw.now at)
+        ticket.old records.old.items result ticket.new records.new.items }
     ensures held { OnOk result (IsGiven (claims ticket.old.rows
         (spawning.new_record ticket.old.rows id node worker rw.now at)) (Some id)
         holders.old holders.new) }
-    ensures records { OnOk result (records.new.items ≡ records.old.items
-        ++ spawning.new_record ticket.old.rows id node worker rw.now at ∷ []) }
-    ensures part { IfOk result (λ p. p ≡ parts.part_for ticket.old
-        (spawning.new_record ticket.old.rows id node worker rw.now at)) }
-    ensures valid { OnOk result (IsValid ticket.old.rows) }
-    ensures ticket_stays { OnErr result (ticket.new ≡ ticket.old) }
-    ensures records_stay { OnErr result (records.new.items ≡ records.old.items) }
     ensures holders_stay { OnErr result (IsSame holders.old holders.new) }
-    ensures memory { IfErr result (λ e. e ≡ Refusal.Memory) }
+    ensures valid { OnOk result (IsValid ticket.old.rows) }
 {
     let before = records.len();
     records.push(new_record(alloc, ticket, id, node, worker, rw, at)?)?;
     match hold(alloc, ticket, holders, &records[before]) {
-        Ok(part) => Ok(part),
+        Ok(part) => Ok((id, part)),
         Err(refusal) => {
             records.truncate(before);
             Err(refusal)
@@ -219,27 +213,16 @@ pub(crate) fn spawn_free(
     requires refusal { spawn_refusal ticket.old.rows records.old.items number node rw ≡ None }
     requires free { IsFree (claims ticket.old.rows
         (spawning.new_record ticket.old.rows number node worker rw at)) holders.old }
-    ensures ticket { OnOk result (ticket.new
-        ≡ spawning.job_after_spawn ticket.old
-        (spawning.new_record ticket.old.rows number node worker rw at)) }
-    ensures records { OnOk result (records.new.items
-        ≡ records.old.items ++ spawning.new_record ticket.old.rows number node worker rw at ∷ []) }
-    ensures id { IfOk result (λ s. s.0 ≡ number) }
-    ensures part { IfOk result (λ s. s.1
-        ≡ parts.part_for ticket.new
-        (spawning.new_record ticket.old.rows number node worker rw at)) }
-    ensures good { OnOk result (IsGood ticket.new.rows
-        (spawning.new_record ticket.old.rows number node worker rw at)) }
+    ensures spawns { spawning.Spawns None
+        (spawning.new_record ticket.old.rows number node worker rw at)
+        ticket.old records.old.items result ticket.new records.new.items }
     ensures held { OnOk result (IsGiven (claims ticket.old.rows
         (spawning.new_record ticket.old.rows number node worker rw at)) (Some number)
         holders.old holders.new) }
-    ensures memory { IfErr result (λ e. e ≡ Refusal.Memory) }
-    ensures ticket_stays { OnErr result (ticket.new ≡ ticket.old) }
-    ensures records_stay { OnErr result (records.new.items ≡ records.old.items) }
     ensures holders_stay { OnErr result (IsSame holders.old holders.new) }
 {
     let id = SpawnId::new(number)?;
-    let part = enter(
+    enter(
         alloc,
         ticket,
         records,
@@ -249,8 +232,7 @@ pub(crate) fn spawn_free(
         worker,
         rw.as_slice(),
         at,
-    )?;
-    Ok((id, part))
+    )
 }
 
 /// Spawns a node with all below it to a worker (JDF 1.5, 4.4), at a time in seconds since 1970: the
@@ -271,28 +253,13 @@ pub fn spawn(
 ) -> Result<(SpawnId, Part), Refusal>
     // Proved: Where a spawn isn't refused its record is last, its audit stands at the parent, and
     // nothing else changes; else nothing does.
-    // By `ticket`, `records`, `id`, `ticket_stays`, `records_stay`.
-    ensures ticket { OnOk result (ticket.new
-        ≡ spawning.job_after_spawn ticket.old
-        (spawning.new_record ticket.old.rows number node worker rw at)) }
-    ensures records { OnOk result (records.new.items
-        ≡ records.old.items ++ spawning.new_record ticket.old.rows number node worker rw at ∷ []) }
-    ensures id { IfOk result (λ s. s.0 ≡ number) }
     // Proved: The record of a spawn is good, and the part is the one made of it.
-    // By `good`, `part`; `part_for`: `ok`, `memory`.
-    ensures part { IfOk result (λ s. s.1
-        ≡ parts.part_for ticket.new
-        (spawning.new_record ticket.old.rows number node worker rw at)) }
-    ensures good { OnOk result (IsGood ticket.new.rows
-        (spawning.new_record ticket.old.rows number node worker rw at)) }
+    // By `part_for`: `ok`, `memory`.
     // Proved: A spawn is refused for its first reason, without memory.
-    // By `refused`, `memory`; `may_spawn`.
-    ensures refused { IfSome (spawn_refusal ticket.old.rows records.old.items number node rw)
-        (λ e. result ≡ Err e) }
-    ensures memory { IfNone (spawn_refusal ticket.old.rows records.old.items number node rw)
-        (IfErr result (λ e. e ≡ Refusal.Memory)) }
-    ensures ticket_stays { OnErr result (ticket.new ≡ ticket.old) }
-    ensures records_stay { OnErr result (records.new.items ≡ records.old.items) }
+    // By `may_spawn`.
+    ensures { spawning.Spawns (spawn_refusal ticket.old.rows records.old.items number node rw)
+        (spawning.new_record ticket.old.rows number node worker rw at)
+        ticket.old records.old.items result ticket.new records.new.items }
 {
     may_spawn(ticket, records.as_slice(), number, &node, rw.as_slice())?;
     // Nobody asks these who holds what.

@@ -24,14 +24,14 @@ returns-in_err-id-clause-refused c =
     let same : is_spawn_number number ≡ is_spawn_number (next_number c.args.self.now.records) =
     c.next_number-number.ensures.valid ∙ ap (λ rs. is_spawn_number (next_number rs)) c.records.ensures.records in
     let alike = ap (λ (v : State). spawn_refusal v.ticket.rows v.records number c.args.node c.args.rw) c.self.view_is ∙ refused_alike c.args.self.now.ticket.rows c.args.self.now.records number (next_number c.args.self.now.records) c.args.node c.args.rw same in
-    subst (λ o. IfSome o (λ r. c.from_residual.result ≡ Err r)) alike (refused_through (spawn_refusal w.ticket.rows w.records number c.args.node c.args.rw) c.spawn_by_table.result c.from_residual.result c.in_err-id.field-0.0 c.spawn_by_table.ensures.refused c.in_err-id.was c.from_residual.ensures.1)
+    subst (λ o. IfSome o (λ r. c.from_residual.result ≡ Err r)) alike (refused_through (spawn_refusal w.ticket.rows w.records number c.args.node c.args.rw) c.spawn_by_table.result c.from_residual.result c.in_err-id.field-0.0 c.spawn_by_table.ensures.spawns.refused c.in_err-id.was c.from_residual.ensures.1)
 
 -- the master inside
 abbrev inside : In_ok-id → State
 inside c = state c.self.inside.name c.self.inside.workers c.self.inside.ticket c.self.inside.records.items
 
 free : (c : In_ok-id) → spawn_refusal (inside c).ticket.rows (inside c).records c.next_number-number.result c.args.node c.args.rw ≡ None
-free c = went_free (spawn_refusal (inside c).ticket.rows (inside c).records c.next_number-number.result c.args.node c.args.rw) (c.in_ok-id.id, c.in_ok-id.part) c.in_ok-id.ensures.refused
+free c = went_free (spawn_refusal (inside c).ticket.rows (inside c).records c.next_number-number.result c.args.node c.args.rw) (c.in_ok-id.id, c.in_ok-id.part) c.in_ok-id.ensures.spawns.refused
 
 number : (c : In_ok-id) → c.next_number-number.result ≡ next_number (inside c).records
 number c =
@@ -40,7 +40,7 @@ number c =
 
 -- what was made is the step
 made : (c : In_ok-id) → state c.self.inside.name c.self.inside.workers c.spawn_by_table.new.ticket c.spawn_by_table.new.records.items ≡ (allowed_step (Spawn c.args.node c.args.worker c.args.rw) c.args.at (inside c)).next
-made c = rw (c.in_ok-id.ensures.ticket, c.in_ok-id.ensures.records, number c) refl
+made c = rw (c.in_ok-id.ensures.spawns.ticket, c.in_ok-id.ensures.spawns.records, number c) refl
 
 pub invariant_of-self-2 : goal.invariant_of-self-2
 invariant_of-self-2 c =
@@ -59,10 +59,10 @@ returns-clause-ok c =
     let w = inside c in
     let r = next_record w c.args.node c.args.worker c.args.rw c.args.at in
     let name : c.in-Ok.sender ≡ w.name = c.in-Ok.ensures.0 ∙ c.name.ensures ∙ sym (ap (λ (v : State). v.name) c.self.view_is) in
-    let told : c.in_ok-id.id ≡ r.id = c.in_ok-id.ensures.id ∙ number c in
+    let told : c.in_ok-id.id ≡ r.id = c.in_ok-id.ensures.spawns.id ∙ number c in
     let part : c.in_ok-id.part ≡ part_for (job_after_spawn w.ticket r) r =
-    c.in_ok-id.ensures.part
-    ∙ ap (λ t. part_for t (new_record w.ticket.rows c.next_number-number.result c.args.node c.args.worker c.args.rw c.args.at)) c.in_ok-id.ensures.ticket
+    c.in_ok-id.ensures.spawns.part
+    ∙ ap (λ t. part_for t (new_record w.ticket.rows c.next_number-number.result c.args.node c.args.worker c.args.rw c.args.at)) c.in_ok-id.ensures.spawns.ticket
     ∙ ap (λ s. let q = new_record w.ticket.rows s c.args.node c.args.worker c.args.rw c.args.at in part_for (job_after_spawn w.ticket q) q) (number c) in
     rw (← c.self.view_is) (λ i. record {
       reply = Ok (Spawned (told i));
