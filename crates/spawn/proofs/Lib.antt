@@ -44,3 +44,4 @@ pub mod Ended
 pub mod HoldingsKept
 pub mod InFront
 pub mod FirstHeld
+pub mod InOrder
