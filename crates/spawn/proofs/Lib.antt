@@ -45,3 +45,4 @@ pub mod Ended
 pub mod HoldingsKept
 pub mod InFront
 pub mod FirstHeld
+pub mod InOrder

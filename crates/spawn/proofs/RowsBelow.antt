@@ -13,7 +13,7 @@ use Rattle.ticket_rows.specs.Place.{below, is_below, path_of}
 use Rattle.ticket_rows.specs.Ticket.{IsValid}
 use Rattle.ticket_items.specs.declared.node_row.NodeRow.{NodeRow}
 use Rattle.spawn.proofs.Split.{path_after, path_after-append, Around}
-use Rattle.spawn.specs.Parts.{resources, resources_among}
+use Rattle.spawn.specs.Parts.{resources}
 use Rattle.spawn.proofs.HomesBelow.{all_later}
 use Rattle.ticket_tree.specs.At.{rows_below}
 use Rattle.ticket_rows.specs.Homes.{homes, pool_with_home}
@@ -85,7 +85,7 @@ rows_below-around rows n valid at =
     ∙ ap (λ rs. mid ++ rs) (kept_none tree n (path_after (path_after [] at.front) mid) at.back (subst (λ p. OwnPlaces tree p at.back) (path_after-append [] at.front mid) (own_back tree [] (at.front ++ mid) at.back own)) at.none_back)
     ∙ append-nil mid
 
--- ---- the resources of some ids, row by row
+-- ---- resources row by row
 
 pub homes-append : (xs ys : List NodeRow) → homes (xs ++ ys) ≡ homes xs ++ homes ys
 homes-append [] ys = refl
@@ -100,13 +100,6 @@ pub resources_last : (rows : List NodeRow) (r : NodeRow)
     → resources (rows ++ r ∷ []) ≡ resources rows ++ r.resources
 resources_last rows r =
     ap (map (λ e. e.0)) (homes-append rows (r ∷ []) ∙ ap (λ es. homes rows ++ es) (append-nil (pool_with_home r))) ∙ map-append {A = Resource × List ℕ} (λ e. e.0) (homes rows) (pool_with_home r) ∙ ap (λ xs. resources rows ++ xs) (own_pool r.id r.resources)
-
--- those of one row more
-pub among_more : (ids : List (List ℕ)) (rows : List NodeRow) (i : ℕ) (d : NodeRow) → i < length rows
-    → resources_among ids (take (i + 1) rows)
-    ≡ resources_among ids (take i rows) ++ filter (λ x. mem x.id ids) (get_or rows i d).resources
-among_more ids rows i d within =
-    ap (resources_among ids) (take_more rows i d within) ∙ ap (filter (λ x. mem x.id ids)) (resources_last (take i rows) (get_or rows i d)) ∙ filter-append (λ x. mem x.id ids) (resources (take i rows)) (get_or rows i d).resources
 
 -- those that pass a test, of one row more
 pub kept_more : (f : Resource → Bool) (rows : List NodeRow) (i : ℕ) (r : NodeRow) → i < length rows

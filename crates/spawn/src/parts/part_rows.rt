@@ -1,13 +1,16 @@
 //! The rows and the resources of a part, copied out of a ticket.
 
-ghost use Rattle.std.specs.Prelude.{◌≡◌, ◌++◌, ℕ, Bool, List, map, IfOk, OnOk};
-ghost use Rattle.std.specs.List.{filter};
-ghost use Rattle.spawn.specs.IdSet.{IsSetOf};
+ghost use Rattle.std.specs.Prelude.{◌≡◌, ◌++◌, map, option_to_list, IfOk, OnOk};
+ghost use Rattle.std.specs.List.{flat_map};
+ghost use Rattle.std.specs.Option.{option_copied};
+ghost use Rattle.ticket_rows.specs.Homes.{resource_of};
+ghost use Rattle.ticket_rows.specs.Ticket.{IsValid};
 ghost use Rattle.spawn.specs.Parts as parts;
+ghost use Rattle.spawn.specs.Records.{IsGood};
 
-use crate::claims::id_set::{IdSet, has, set_of};
+use crate::records::spawn_rec::SpawnRec;
 use std::alloc::{AllocError, Global};
-use ticket_tree::{Duplicate, Id, NodeRow, Resource, Rows};
+use ticket_tree::{Duplicate, Id, NodeRow, Resource, Rows, Ticket};
 
 /// A row, so many levels higher.
 fn lifted_row(alloc: Global, row: &NodeRow, levels: u32) -> Result<NodeRow, AllocError>
@@ -30,37 +33,43 @@ pub fn lifted_rows(alloc: Global, rows: &Rows<'_>, levels: u32) -> Result<Vec<No
     Ok(lifted)
 }
 
-/// Adds copies of those resources of a pool whose ids are in the set.
-fn push_among(
+/// Adds a copy of a resource, if there is one.
+fn push_copy(
     alloc: Global,
     found: &mut Vec<Resource>,
-    pool: &[Resource],
-    ids: &IdSet<'_>,
+    resource: Option<&Resource>,
 ) -> Result<(), AllocError>
-    ensures { OnOk result ((f : List ℕ → Bool) → IsSetOf f ids.now
-        → found.new.items ≡ found.old.items ++ filter (λ x. f x.id) pool.now) }
+    ensures { OnOk result (found.new.items
+        ≡ found.old.items ++ option_to_list (option_copied resource.entry)) }
 {
-    for resource in pool {
-        if has(ids, &resource.id) {
-            found.push(resource.copy(alloc)?)?;
-        }
+    if let Some(resource) = resource {
+        found.push(resource.copy(alloc)?)?;
     }
     Ok(())
 }
 
-/// Copies of the resources whose ids are among these, in ticket order.
-pub fn resources_among(
-    alloc: Global,
-    rows: &Rows<'_>,
-    ids: &[Id],
-) -> Result<Vec<Resource>, AllocError>
-    ensures { IfOk result (λ v. v.items ≡ parts.resources_among ids.now rows.now) }
+/// Copies of the resources of these ids, one after another. Of an id that no resource has there is
+/// none.
+fn resources_of(alloc: Global, ticket: &Ticket, ids: &[Id]) -> Result<Vec<Resource>, AllocError>
+    ensures { IfOk result (λ v. v.items
+        ≡ flat_map (λ x. option_to_list (resource_of ticket.now.rows x)) ids.now) }
 {
-    let among = set_of(alloc, ids)?;
-    let mut found = Vec::new(alloc);
-    for place in 0..rows.len() {
-        let row = rows.at(place);
-        push_among(alloc, &mut found, row.resources.as_slice(), &among)?;
+    let mut found = Vec::with_capacity(alloc, ids.len())?;
+    for id in ids {
+        push_copy(alloc, &mut found, ticket.resource(id))?;
     }
     Ok(found)
+}
+
+/// Copies of the resources of a good record that may be changed, in ticket order.
+pub fn resources_to_change(
+    alloc: Global,
+    ticket: &Ticket,
+    spawn: &SpawnRec,
+) -> Result<Vec<Resource>, AllocError>
+    requires valid { IsValid ticket.now.rows }
+    requires good { IsGood ticket.now.rows spawn.now }
+    ensures { IfOk result (λ v. v.items ≡ parts.resources_among spawn.now.rw ticket.now.rows) }
+{
+    resources_of(alloc, ticket, spawn.rw.as_slice())
 }

@@ -8,14 +8,16 @@ ghost use Rattle.spawn.specs.Parts as parts;
 ghost use Rattle.spawn.specs.Records.{IsGood, is_out};
 
 use crate::claims::above::ancestors_of;
-use crate::parts::part_rows::{lifted_rows, resources_among};
+use crate::parts::part_rows::{lifted_rows, resources_to_change};
 use crate::records::spawn_rec::SpawnRec;
 use std::alloc::Global;
 use ticket_tree::{At, Duplicate, Items, Part, Refusal, Ticket};
 
 /// The part of a spawn of the node at which the ticket is seen.
 fn part_at(alloc: Global, ticket: &Ticket, spawn: &SpawnRec, at: &At<'_>) -> Result<Part, Refusal>
-    requires { IsValid
+    requires valid { IsValid ticket.now.rows }
+    requires good { IsGood ticket.now.rows spawn.now }
+    requires part { IsValid
         (with_copies (map (parts.lifted_row (at.now.depth - 1)) at.now.below)
         (parts.resources_among spawn.now.rw ticket.now.rows) spawn.now.ro) }
     ensures ok { IfOk result (λ p. p ≡ part_copy ticket.now.job_id spawn.now.id
@@ -24,10 +26,9 @@ fn part_at(alloc: Global, ticket: &Ticket, spawn: &SpawnRec, at: &At<'_>) -> Res
         (parts.resources_among spawn.now.rw ticket.now.rows) spawn.now.ro) }
     ensures memory { IfErr result (λ e. e ≡ Refusal.Memory) }
 {
-    let nodes = ticket.rows();
     let ancestors = ancestors_of(alloc, at)?;
     let below = lifted_rows(alloc, &at.below, at.levels())?;
-    let rw = resources_among(alloc, &nodes, spawn.rw.as_slice())?;
+    let rw = resources_to_change(alloc, ticket, spawn)?;
     let ro = spawn.ro.copy(alloc)?;
     let job = ticket.job().copy(alloc)?;
     let (ancestors, rw) = (Items::new(ancestors), Items::new(rw));

@@ -7,8 +7,8 @@ use Rattle.spawn.proofs.parts.spawned_part.part_for.Goals as goal
 pub returns-in-None-clause-memory : goal.returns-in-None-clause-memory
 returns-in-None-clause-memory c = absurd (true≢false (sym (good_node c.args.ticket.now.rows c.args.spawn.now c.requires.good) ∙ sym c.in-None.ensures.known))
 
-pub part_at-requires : goal.part_at-requires
-part_at-requires c = part_stands c.args.ticket.now.rows c.args.spawn.now c.in-Some.at c.in-Some.ensures.valid c.requires.good c.in-Some.ensures.at
+pub part_at-requires-clause-part : goal.part_at-requires-clause-part
+part_at-requires-clause-part c = part_stands c.args.ticket.now.rows c.args.spawn.now c.in-Some.at c.in-Some.ensures.valid c.requires.good c.in-Some.ensures.at
 
 pub returns-in-Some-clause-ok : goal.returns-in-Some-clause-ok
 returns-in-Some-clause-ok c =
