@@ -1,13 +1,12 @@
 //! What a worker does with a message.
 
-ghost use Rattle.std.specs.Prelude.{◌≡◌, ℕ, List, true, false, if◌then◌else◌, Ok, Err, None};
-ghost use Rattle.std.specs.Prelude.{OnOk, OnErr, IfOk, IsOk, is_err, is_some};
+ghost use Rattle.std.specs.Prelude.{◌≡◌, ℕ, List, true, false, None, OnOk, OnErr, IfOk, IsOk};
 ghost use Rattle.ticket_rows.specs.Copies.{with_copies};
 ghost use Rattle.ticket_rows.specs.Ticket.{IsValid};
 ghost use Rattle.controller.specs.Reply as replies;
-ghost use Rattle.controller.specs.Step as steps;
 ghost use Rattle.worker_core.specs.Messages as messages;
 ghost use Rattle.worker_core.specs.Worker as worker;
+ghost use Rattle.worker_core.specs.declared.entry.Entry.{Entry as EntrySeen};
 
 use crate::entries::Entries;
 use crate::entry::Entry;
@@ -18,6 +17,15 @@ use controller::{Body, Message, Outcome, QueueStatus, Reply, Taken};
 use std::alloc::{AllocError, Global};
 use ticket_tree::{Id, Part, Refusal, SpawnId};
 use world_items::End;
+
+/// What a worker makes of what a message says.
+#[derive(Clone, Copy)]
+pub struct Judgement {
+    /// Why it is refused, if it is.
+    pub refusal: Option<Refusal>,
+    /// What it is taken as, if it isn't.
+    pub taken: Taken,
+}
 
 /// Why a part that goes out is refused.
 fn part_refusal(entries: &Entries, part: &Part) -> Option<Refusal>
@@ -51,33 +59,6 @@ fn answer_refusal(entries: &Entries, spawn: SpawnId) -> Option<Refusal>
         None => Some(Refusal::UnknownEntry),
         Some(entry) => ended_refusal(entry),
     }
-}
-
-/// Why what a message says is refused: the first reason that holds.
-fn body_refusal(entries: &Entries, body: &Body) -> Option<Refusal>
-    ensures { result ≡ messages.body_refusal body.now entries.now }
-{
-    match body {
-        Body::Submit(part) => part_refusal(entries, part),
-        Body::Return(_) => None,
-        Body::Abort(_) => None,
-        Body::Answer { spawn_id, .. } => answer_refusal(entries, *spawn_id),
-    }
-}
-
-/// Why a message is refused by the worker of a name that has these entries of its master: the first
-/// reason that holds. Needs no memory.
-fn refusal_of(name: &Id, master: &Id, entries: &Entries, message: &Message) -> Option<Refusal>
-    ensures { result
-        ≡ messages.take_refusal message.now (worker.state name.now master.now entries.now) }
-{
-    if message.receiver != *name || !is_for_worker(&message.body) {
-        return Some(Refusal::WrongMessage);
-    }
-    if message.sender != *master {
-        return Some(Refusal::WrongSender);
-    }
-    body_refusal(entries, &message.body)
 }
 
 /// What an answer is taken as.
@@ -171,50 +152,59 @@ fn abort_taken(entries: &Entries, spawn: SpawnId) -> Taken
     }
 }
 
-/// What a message is taken as.
-pub fn taken_as(entries: &Entries, body: &Body) -> Taken
-    ensures reply { (name : List ℕ) (master : List ℕ) (at : ℕ) → result.reply
+/// Judges what a message says, whoever sent it. Needs no memory.
+pub fn judge(entries: &Entries, body: &Body) -> Judgement
+    ensures refusal { result.refusal ≡ messages.body_refusal body.now entries.now }
+    ensures reply { (name : List ℕ) (master : List ℕ) (at : ℕ) → result.taken.reply
         ≡ (messages.on_body body.now at (worker.state name master entries.now)).reply }
-    ensures response { (name : List ℕ) (master : List ℕ) (at : ℕ) → result.response
+    ensures response { (name : List ℕ) (master : List ℕ) (at : ℕ) → result.taken.response
         ≡ (messages.on_body body.now at (worker.state name master entries.now)).response }
 {
     match body {
-        Body::Submit(part) => part_taken(entries, part),
-        Body::Return(part) => Taken {
-            reply: Reply::Already(part.spawn_id()),
-            response: entries.response_in(part.spawn_id()),
+        Body::Submit(part) => Judgement {
+            refusal: part_refusal(entries, part),
+            taken: part_taken(entries, part),
         },
-        Body::Abort(spawn_id) => abort_taken(entries, *spawn_id),
+        Body::Return(part) => Judgement {
+            refusal: None,
+            taken: Taken {
+                reply: Reply::Already(part.spawn_id()),
+                response: entries.response_in(part.spawn_id()),
+            },
+        },
+        Body::Abort(spawn_id) => Judgement {
+            refusal: None,
+            taken: abort_taken(entries, *spawn_id),
+        },
         Body::Answer {
             spawn_id,
             result,
             ..
-        } => answer_taken(entries, *spawn_id, *result),
+        } => Judgement {
+            refusal: answer_refusal(entries, *spawn_id),
+            taken: answer_taken(entries, *spawn_id, *result),
+        },
     }
 }
 
-/// What a message is taken as by the worker of a name that has these entries of its master, or why
-/// it is refused.
-fn checked_taken(
+/// Why a message is refused by the worker of a name and with such a master, where it is refused so
+/// for what it says: the first reason that holds. Needs no memory.
+fn refusal_of(
     name: &Id,
     master: &Id,
-    entries: &Entries,
     message: &Message,
-) -> Result<Taken, Refusal>
-    ensures reply { (at : ℕ) → steps.reply_of result
-        ≡ (messages.take_step message.now at
-        (worker.state name.now master.now entries.now)).reply }
-    ensures answer { (at : ℕ) →
-        replies.answer_to name.now message.now at (steps.response_of result)
-        ≡ (messages.take_step message.now at
-        (worker.state name.now master.now entries.now)).sent }
-    ensures refused { is_err result ≡ is_some (messages.take_refusal message.now
-        (worker.state name.now master.now entries.now)) }
+    for_body: Option<Refusal>,
+) -> Option<Refusal>
+    ensures { (entries : List EntrySeen) → for_body ≡ messages.body_refusal message.now.body entries
+        → result ≡ messages.take_refusal message.now (worker.state name.now master.now entries) }
 {
-    match refusal_of(name, master, entries, message) {
-        Some(refusal) => Err(refusal),
-        None => Ok(taken_as(entries, &message.body)),
+    if message.receiver != *name || !is_for_worker(&message.body) {
+        return Some(Refusal::WrongMessage);
     }
+    if message.sender != *master {
+        return Some(Refusal::WrongSender);
+    }
+    for_body
 }
 
 /// Makes an entry of a part that is taken at a time, where there is none of its spawn.
@@ -297,30 +287,6 @@ fn take_body(alloc: Global, entries: &mut Entries, body: Body, at: u64) -> Resul
     }
 }
 
-/// Takes what a message says, unless it is refused. An answer takes no memory.
-fn take_unless(
-    refused: bool,
-    alloc: Global,
-    entries: &mut Entries,
-    body: Body,
-    at: u64,
-) -> Result<(), AllocError>
-    ensures ok { (name : List ℕ) (master : List ℕ) → OnOk result
-        (worker.state name master entries.new ≡ if refused
-        then worker.state name master entries.old
-        else (messages.on_body body at (worker.state name master entries.old)).next) }
-    ensures err { OnErr result (entries.new ≡ entries.old) }
-    ensures valid { refused ≡ false → messages.IsValidBody body }
-    ensures answers { replies.is_answer body ≡ true → IsOk result }
-{
-    if refused {
-        drop(body);
-        Ok(())
-    } else {
-        take_body(alloc, entries, body, at)
-    }
-}
-
 /// Takes a message as the worker of a name that has these entries of its master.
 pub fn do_take(
     alloc: Global,
@@ -343,13 +309,11 @@ pub fn do_take(
         (worker.state name.now master.now entries.old) ≡ None
         → messages.IsValidBody message.body) }
 {
-    let taken = checked_taken(name, master, entries, &message);
-    let refused = taken.is_err();
-    match outcome_of(alloc, name, &message, at, taken) {
-        Ok(outcome) => take_unless(refused, alloc, entries, message.body, at).and(Ok(outcome)),
-        Err(error) => {
-            drop(message);
-            Err(error)
-        }
+    let judged = judge(entries, &message.body);
+    if let Some(refusal) = refusal_of(name, master, &message, judged.refusal) {
+        return outcome_of(alloc, name, &message, at, Err(refusal));
     }
+    let outcome = outcome_of(alloc, name, &message, at, Ok(judged.taken))?;
+    take_body(alloc, entries, message.body, at)?;
+    Ok(outcome)
 }

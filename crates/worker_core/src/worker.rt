@@ -2,7 +2,7 @@ use crate::entries::Entries;
 use crate::entry::Entry;
 use crate::ordering::do_order;
 use crate::stored::are_parts;
-use crate::taking::{do_take, taken_as};
+use crate::taking::{do_take, judge};
 use controller::{Body, Done, Message, Outcome, Taken};
 use std::alloc::{AllocError, Global};
 use std::marker::Model;
@@ -174,7 +174,7 @@ impl Worker {
         ensures response { (at : ℕ) → result.response
             ≡ (messages.on_body body.now at self.now).response }
     {
-        taken_as(&self.entries, body)
+        judge(&self.entries, body).taken
     }
 
     /// Takes a message, whoever sent it and whatever it says, at a time in seconds since 1970. The
