@@ -1,12 +1,8 @@
 -- What is told of a refusal, as it is passed on.
-use Rattle.std.proofs.Common.{◌≡◌, ◌∙◌, ℕ, Bool, true, false, [], ◌∷◌, Option, Some, None, Result, Ok, Err, IfOk, IfSome, OnErr, OnOk, is_some, refl, sym, ap}
+use Rattle.std.proofs.Common.{◌≡◌, ◌∙◌, Bool, true, false, [], ◌∷◌, Option, Some, None, Result, Ok, Err, IfSome, OnErr, OnOk, refl, sym, ap}
 use Rattle.std.specs.Result.{IsErrAnd, result_or}
 use Rattle.ticket_items.specs.declared.refusal.Refusal.{Refusal}
 use Rattle.ticket_rows.specs.Ticket.{first_of, unless}
-use Rattle.controller.specs.Reply.{is_freed}
-use Rattle.controller.specs.Step.{Taking, message_step}
-use Rattle.controller.specs.declared.message.Message.{Message}
-use Rattle.master_core.specs.Master.{State}
 
 -- what was refused is refused where it is passed on
 pub refused_through : {X Y : Type 0} (o : Option Refusal) (inner : Result X Refusal) (outer : Result Y Refusal) (e : Refusal) → IfSome o (λ r. inner ≡ Err r) → inner ≡ Err e → IsErrAnd outer (λ r. r ≡ e) → IfSome o (λ r. outer ≡ Err r)
@@ -36,8 +32,3 @@ pub behind_test : (b : Bool) (r : Refusal) (o : Option Refusal) → b ≡ true �
 behind_test true r None passed = refl
 behind_test true r (Some q) passed = refl
 behind_test false r o passed = cc
-
--- what is told as no refusal, and frees no spawn
-pub replied_free : (o : Option Refusal) (b : Bool) (m : Message) (at : ℕ) (w : State) (t : Taking State) → b ≡ is_some o → IfOk (message_step w.name m at o w t).reply (λ q. is_freed q ≡ false) → b ≡ false → is_freed t.reply ≡ false
-replied_free None b m at w t told free passed = free
-replied_free (Some e) b m at w t told free passed = cc

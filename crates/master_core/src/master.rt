@@ -226,12 +226,11 @@ impl Master {
             → IfOk (messages.take_step message at self.old).reply (λ r. is_freed r ≡ false)
             → IsOk result }
     {
-        let taken = self.checked_taken(&message);
-        let refused = taken.is_err();
-        let outcome = outcome_of(alloc, self.name(), &message, at, taken)?;
-        if refused {
-            return Ok(outcome);
+        let judged = self.judge(&message.body);
+        if let Some(refusal) = self.refusal_of(&message, judged.refusal) {
+            return outcome_of(alloc, self.name(), &message, at, Err(refusal));
         }
+        let outcome = outcome_of(alloc, self.name(), &message, at, Ok(judged.taken))?;
         self.take_body(alloc, message.body, at)?;
         Ok(outcome)
     }

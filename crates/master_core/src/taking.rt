@@ -1,10 +1,8 @@
 //! What a master does with a message.
 
-ghost use Rattle.std.specs.Prelude.{◌≡◌, ℕ, true, false, OnOk, OnErr};
-ghost use Rattle.std.specs.Prelude.{IsOk, Ok, Some, None, is_err, is_some};
+ghost use Rattle.std.specs.Prelude.{◌≡◌, ℕ, true, false, OnOk, OnErr, IsOk, Ok, Some, None};
 ghost use Rattle.ticket_tree.specs.Part.{PartCopy};
 ghost use Rattle.controller.specs.Reply as replies;
-ghost use Rattle.controller.specs.Step as steps;
 ghost use Rattle.spawn.specs.Records.{is_out};
 ghost use Rattle.spawn.specs.declared.records.spawn_rec.SpawnRec.{SpawnRec};
 ghost use Rattle.merge.specs.Alike as alike;
@@ -19,6 +17,15 @@ use merge::{fits, merge_fitting};
 use spawn::{Phase, SpawnRec};
 use std::alloc::{AllocError, Global};
 use ticket_tree::{Part, Refusal, SpawnId, Ticket};
+
+/// What a master makes of what a message says.
+#[derive(Clone, Copy)]
+pub(crate) struct Judgement {
+    /// Why it is refused, if it is.
+    pub(crate) refusal: Option<Refusal>,
+    /// What it is taken as, if it isn't.
+    pub(crate) taken: Taken,
+}
 
 /// Why a part that comes back from a spawn is refused.
 fn return_refusal(ticket: &Ticket, spawn: &SpawnRec, part: &Part) -> Option<Refusal>
@@ -66,45 +73,30 @@ fn end_of_part(part: &Part) -> QueueStatus
     }
 }
 
-/// What it is taken as that tells of a spawn and changes nothing.
-fn note_taken(spawn: SpawnId) -> Taken
-    ensures reply { result.reply ≡ Reply.Noted spawn }
-    ensures response { result.response ≡ Ok QueueStatus.Completed }
+/// What is made of what tells of a spawn and changes nothing.
+fn noted(spawn: SpawnId) -> Judgement
+    ensures refusal { result.refusal ≡ None }
+    ensures reply { result.taken.reply ≡ Reply.Noted spawn }
+    ensures response { result.taken.response ≡ Ok QueueStatus.Completed }
 {
-    Taken {
-        reply: Reply::Noted(spawn),
-        response: Ok(QueueStatus::Completed),
+    Judgement {
+        refusal: None,
+        taken: Taken {
+            reply: Reply::Noted(spawn),
+            response: Ok(QueueStatus::Completed),
+        },
     }
 }
 
 impl Master {
-    /// Why what a message says of a spawn is refused.
-    fn body_refusal(&self, spawn: &SpawnRec, body: &Body) -> Option<Refusal>
-        ensures { result ≡ messages.body_refusal body.now self.now spawn.now }
+    /// Why a part that comes back is refused, where its spawn is one of the master's.
+    fn part_refusal(&self, part: &Part) -> Option<Refusal>
+        ensures { (r : SpawnRec) → masters.record_of self.now.records part.now.spawn_id ≡ Some r
+            → result ≡ messages.return_refusal r.phase (alike.is_fit self.now.ticket r part.now) }
     {
-        match body {
-            Body::Submit(_) => None,
-            Body::Return(part) => return_refusal(self.ticket(), spawn, part),
-            Body::Abort(_) => None,
-            Body::Answer { .. } => None,
-        }
-    }
-
-    /// Why a message is refused: the first reason that holds. Needs no memory.
-    fn take_refusal(&self, message: &Message) -> Option<Refusal>
-        ensures { result ≡ messages.take_refusal message.now self.now }
-    {
-        if message.receiver != *self.name() || is_for_worker(&message.body) {
-            return Some(Refusal::WrongMessage);
-        }
-        match record_of(self.records(), spawn_in(&message.body)) {
-            None => Some(Refusal::UnknownSpawn),
-            Some(spawn) => {
-                if message.sender != spawn.worker {
-                    return Some(Refusal::WrongSender);
-                }
-                self.body_refusal(spawn, &message.body)
-            }
+        match record_of(self.records(), part.spawn_id()) {
+            None => None,
+            Some(spawn) => return_refusal(self.ticket(), spawn, part),
         }
     }
 
@@ -126,20 +118,76 @@ impl Master {
         }
     }
 
-    /// What it is taken as that the worker of a spawn declines it: the spawn is freed while it is
-    /// out.
-    fn decline_taken(&self, spawn: SpawnId) -> Taken
-        ensures reply { (at : ℕ) → result.reply ≡ (messages.on_decline spawn at self.now).reply }
-        ensures response { (at : ℕ) → result.response
+    /// What is made of it that the worker of a spawn declines it: that is freed while it is out.
+    fn declined(&self, spawn: SpawnId) -> Judgement
+        ensures refusal { result.refusal ≡ None }
+        ensures reply { (at : ℕ) → result.taken.reply
+            ≡ (messages.on_decline spawn at self.now).reply }
+        ensures response { (at : ℕ) → result.taken.response
             ≡ (messages.on_decline spawn at self.now).response }
     {
-        if is_spawn_out(self.records(), spawn) {
-            Taken {
+        if !is_spawn_out(self.records(), spawn) {
+            return noted(spawn);
+        }
+        Judgement {
+            refusal: None,
+            taken: Taken {
                 reply: Reply::Freed(spawn),
                 response: Ok(QueueStatus::Completed),
+            },
+        }
+    }
+
+    /// Judges what a message says, whoever sent it. Needs no memory.
+    pub(crate) fn judge(&self, body: &Body) -> Judgement
+        ensures refusal { (r : SpawnRec)
+            → masters.record_of self.now.records (replies.spawn_in body.now) ≡ Some r
+            → result.refusal ≡ messages.body_refusal body.now self.now r }
+        ensures reply { (at : ℕ) → result.taken.reply
+            ≡ (messages.on_body body.now at self.now).reply }
+        ensures response { (at : ℕ) → result.taken.response
+            ≡ (messages.on_body body.now at self.now).response }
+    {
+        match body {
+            Body::Submit(part) => noted(part.spawn_id()),
+            Body::Return(part) => Judgement {
+                refusal: self.part_refusal(part),
+                taken: self.part_taken(part),
+            },
+            Body::Abort(spawn_id) => noted(*spawn_id),
+            Body::Answer {
+                of,
+                spawn_id,
+                result,
+            } => {
+                if is_declined(*of, *result) {
+                    self.declined(*spawn_id)
+                } else {
+                    noted(*spawn_id)
+                }
             }
-        } else {
-            note_taken(spawn)
+        }
+    }
+
+    /// Why a message is refused, where it is refused so for what it says: the first reason that
+    /// holds. Needs no memory.
+    pub(crate) fn refusal_of(&self, message: &Message, for_body: Option<Refusal>) -> Option<Refusal>
+        requires { (r : SpawnRec)
+            → masters.record_of self.now.records (replies.spawn_in message.now.body) ≡ Some r
+            → for_body ≡ messages.body_refusal message.now.body self.now r }
+        ensures { result ≡ messages.take_refusal message.now self.now }
+    {
+        if message.receiver != *self.name() || is_for_worker(&message.body) {
+            return Some(Refusal::WrongMessage);
+        }
+        match record_of(self.records(), spawn_in(&message.body)) {
+            None => Some(Refusal::UnknownSpawn),
+            Some(spawn) => {
+                if message.sender != spawn.worker {
+                    return Some(Refusal::WrongSender);
+                }
+                for_body
+            }
         }
     }
 
@@ -152,38 +200,7 @@ impl Master {
         ensures response { (at : ℕ) → result.response
             ≡ (messages.on_body body.now at self.now).response }
     {
-        match body {
-            Body::Submit(part) => note_taken(part.spawn_id()),
-            Body::Return(part) => self.part_taken(part),
-            Body::Abort(spawn_id) => note_taken(*spawn_id),
-            Body::Answer {
-                of,
-                spawn_id,
-                result,
-            } => {
-                if is_declined(*of, *result) {
-                    self.decline_taken(*spawn_id)
-                } else {
-                    note_taken(*spawn_id)
-                }
-            }
-        }
-    }
-
-    /// What a message is taken as, or why it is refused.
-    pub(crate) fn checked_taken(&self, message: &Message) -> Result<Taken, Refusal>
-        ensures reply { (at : ℕ) → steps.reply_of result
-            ≡ (messages.take_step message.now at self.now).reply }
-        ensures answer { (at : ℕ) →
-            replies.answer_to self.now.name message.now at (steps.response_of result)
-            ≡ (messages.take_step message.now at self.now).sent }
-        ensures refused { is_err result
-            ≡ is_some (messages.take_refusal message.now self.now) }
-    {
-        match self.take_refusal(message) {
-            Some(refusal) => Err(refusal),
-            None => Ok(self.taken_as(&message.body)),
-        }
+        self.judge(body).taken
     }
 
     /// Takes a part that comes back: where its spawn is out it is put in, at a time, and the master

@@ -1,35 +1,43 @@
-use Rattle.std.proofs.Common.{◌≡◌, ◌∙◌, cond, ap, sym}
-use Rattle.std.proofs.lemmas.Bool.{true≢false}
-use Rattle.controller.proofs.Answered.{answering_leads}
+use Rattle.std.proofs.Common.{◌≡◌, ◌∙◌, ℕ, List, Option, Some, None, Result, Ok, Err, IfOk, ap, refl, sym, subst}
+use Rattle.ticket_items.specs.Refusal.{number_of}
+use Rattle.ticket_items.specs.declared.refusal.Refusal.{Refusal}
 use Rattle.controller.specs.Reply.{answer_to}
-use Rattle.controller.specs.Step.{response_of}
-use Rattle.master_core.proofs.Passing.{replied_free}
-use Rattle.master_core.specs.Messages.{on_body, take_refusal, take_step}
+use Rattle.controller.specs.Step.{Taking, message_step, outcome_step}
+use Rattle.controller.specs.declared.message.Message.{Message}
+use Rattle.controller.specs.declared.outcome.Outcome.{Outcome}
+use Rattle.master_core.specs.Master.{State}
+use Rattle.master_core.specs.Messages.{on_body}
 use Rattle.master_core.proofs.master.Master.take.Goals as goal
 
-pub returns-then-refused-clause-ok : goal.returns-then-refused-clause-ok
-returns-then-refused-clause-ok c =
-    let w = c.args.self.now in
-    let m = c.args.message in
-    let said : c.in_ok-outcome.outcome.reply ≡ (take_step m c.args.at w).reply = c.in_ok-outcome.ensures.reply ∙ c.checked_taken-taken.ensures.reply c.args.at in
-    let sent : c.in_ok-outcome.outcome.answer ≡ (take_step m c.args.at w).sent = c.in_ok-outcome.ensures.answer ∙ ap (λ name. answer_to name m c.args.at (response_of c.checked_taken-taken.result)) c.name.ensures ∙ c.checked_taken-taken.ensures.answer c.args.at in
-    let told = sym c.if-refused.true ∙ c.is_err-refused.ensures.value ∙ c.checked_taken-taken.ensures.refused in
-    let led = ap (λ b. cond b w (on_body m.body c.args.at w).next) told ∙ answering_leads w.name m c.args.at (take_refusal m w) w (on_body m.body c.args.at w) in
-    λ i. record { reply = said i; sent = sent i; next = led i }
+none_of : {X : Type 0} (o : Option X) → ((x : X) → o ≡ Some x → ⊥) → o ≡ None
+none_of None some = refl
+none_of (Some x) some = absurd (some x refl)
 
-pub returns-in_err-take_body-clause-answers : goal.returns-in_err-take_body-clause-answers
-returns-in_err-take_body-clause-answers c is free =
+-- what is answered with a refusal makes the step of that
+refused : {E : Type 0} (result : Result Outcome E) (name : List ℕ) (m : Message) (at : ℕ) (e : Refusal) (w : State) (t : Taking State)
+    → IfOk result (λ o. o.reply ≡ Err e) → IfOk result (λ o. o.answer ≡ answer_to name m at (Err (number_of e))) → IfOk result (λ o. outcome_step o w ≡ message_step name m at (Some e) w t)
+refused (Ok o) name m at e w t said sent = λ i. record { reply = said i; sent = sent i; next = w }
+refused (Err x) name m at e w t said sent = tt
+
+pub returns-in-Some-clause-ok : goal.returns-in-Some-clause-ok
+returns-in-Some-clause-ok c =
     let w = c.args.self.now in
     let m = c.args.message in
-    let told = c.is_err-refused.ensures.value ∙ c.checked_taken-taken.ensures.refused in
-    absurd (true≢false (sym (c.in_err-take_body.ensures.answers is (replied_free (take_refusal m w) c.is_err-refused.result m c.args.at w (on_body m.body c.args.at w) told free c.if-refused.false))))
+    let at = c.args.at in
+    let t = on_body m.body at w in
+    let e = c.in-Some.refusal in
+    subst (λ why. IfOk c.outcome_of.result (λ o. outcome_step o w ≡ message_step w.name m at why w t)) c.in-Some.ensures
+    (refused c.outcome_of.result w.name m at e w t c.outcome_of.ensures.reply
+    (subst (λ name. IfOk c.outcome_of.result (λ o. o.answer ≡ answer_to name m at (Err (number_of e)))) c.name.ensures c.outcome_of.ensures.answer))
 
 pub returns-clause-ok : goal.returns-clause-ok
 returns-clause-ok c =
     let w = c.args.self.now in
     let m = c.args.message in
-    let said : c.in_ok-outcome.outcome.reply ≡ (take_step m c.args.at w).reply = c.in_ok-outcome.ensures.reply ∙ c.checked_taken-taken.ensures.reply c.args.at in
-    let sent : c.in_ok-outcome.outcome.answer ≡ (take_step m c.args.at w).sent = c.in_ok-outcome.ensures.answer ∙ ap (λ name. answer_to name m c.args.at (response_of c.checked_taken-taken.result)) c.name.ensures ∙ c.checked_taken-taken.ensures.answer c.args.at in
-    let told = sym c.if-refused.false ∙ c.is_err-refused.ensures.value ∙ c.checked_taken-taken.ensures.refused in
-    let led = c.in_ok-take_body.ensures.ok ∙ ap (λ b. cond b w (on_body m.body c.args.at w).next) told ∙ answering_leads w.name m c.args.at (take_refusal m w) w (on_body m.body c.args.at w) in
-    λ i. record { reply = said i; sent = sent i; next = led i }
+    let at = c.args.at in
+    let t = on_body m.body at w in
+    let free = sym (none_of c.refusal_of.result c.in_default.not-Some) ∙ c.refusal_of.ensures in
+    let said : c.in_ok-outcome.outcome.reply ≡ Ok t.reply = c.in_ok-outcome.ensures.reply ∙ ap Ok (c.judge-judged.ensures.reply at) in
+    let sent : c.in_ok-outcome.outcome.answer ≡ answer_to w.name m at t.response = c.in_ok-outcome.ensures.answer ∙ ap (λ name. answer_to name m at c.judge-judged.result.taken.response) c.name-2.ensures ∙ ap (answer_to w.name m at) (c.judge-judged.ensures.response at) in
+    let led = c.in_ok-take_body.ensures.ok in
+    subst (λ why. outcome_step c.in_ok-outcome.outcome c.take_body.new.self ≡ message_step w.name m at why w t) free (λ i. record { reply = said i; sent = sent i; next = led i })
