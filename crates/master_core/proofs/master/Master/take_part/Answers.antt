@@ -11,7 +11,7 @@ use Rattle.master_core.proofs.InStep.{put_in_step}
 use Rattle.master_core.proofs.Merging.{put_is, put_there}
 use Rattle.master_core.proofs.Passing.{failed, went}
 use Rattle.master_core.proofs.RecordPlaces.{IsOutAt, out_read, out_there}
-use Rattle.master_core.specs.Master.{State, is_spawn_out, record_of, state}
+use Rattle.master_core.specs.Master.{IsNumbered, State, is_spawn_out, record_of, state}
 use Rattle.master_core.specs.Messages.{on_return}
 use Rattle.master_core.proofs.master.Master.take_part.Goals as goal
 use Rattle.master_core.proofs.master.Master.take_part.Goals.{After-index_mut-record}
@@ -30,6 +30,9 @@ fitting c =
     let r = c.index_mut-record.result.now in
     let s = c.args.part.spawn_id in
     part_fits c.self.inside.ticket r c.args.part (ap (λ (w : State). is_fit w.ticket r c.args.part) c.self.view_is ∙ c.requires r (ap (λ (w : State). record_of w.records s) (sym c.self.view_is) ∙ (own c).found) (own c).out)
+
+pub is_spawn_out-requires : goal.is_spawn_out-requires
+is_spawn_out-requires c = subst IsNumbered (sym c.as_slice.ensures.value) c.self.invariant.kept.numbered
 
 pub index_mut-record-requires : goal.index_mut-record-requires
 index_mut-record-requires c =
