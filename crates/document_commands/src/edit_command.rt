@@ -8,5 +8,5 @@ pub mod laws;
 mod raw_document;
 mod run;
 
-pub use command::{Edit, run_edit};
+pub use command::run_edit;
 pub(crate) use edit_output::check_document;

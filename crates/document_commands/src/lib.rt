@@ -10,5 +10,5 @@ mod told;
 
 pub use caused::{CausedFault, give_up_caused};
 pub use check_command::run_check;
-pub use edit_command::{Edit, run_edit};
+pub use edit_command::run_edit;
 pub use explain_command::run_explain;

@@ -6,6 +6,7 @@ mod ancestor;
 mod attrs;
 mod attrs_iter;
 mod audit;
+mod chars;
 mod duplicate;
 mod edit;
 mod few_attrs;

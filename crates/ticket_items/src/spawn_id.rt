@@ -131,7 +131,7 @@ impl SpawnId {
         ensures valid { is_spawn_number self ≡ true }
     {
         let text = format!(in alloc; "S{}", self.number)?;
-        Ok(Id::from_text(text))
+        Id::from_valid(alloc, text.as_str())
     }
 }
 

@@ -1,3 +1,4 @@
+use crate::chars::Chars;
 use crate::duplicate::Duplicate;
 use crate::refusal::Refusal;
 use crate::rules::is_text;
@@ -8,18 +9,18 @@ use std::marker::Model;
 /// what a note says.
 #[derive(Drop)]
 pub struct Text {
-    text: String,
+    text: Chars,
 }
 
 impl Model for Text {
-    ghost use Rattle.std.specs.Prelude.{◌≡◌, ℕ, List, true, string_bytes};
+    ghost use Rattle.std.specs.Prelude.{◌≡◌, ℕ, List, true};
     ghost use Rattle.ticket_items.specs.Names.{is_text};
 
     ghost Value = { List ℕ };
 
-    ghost view = { λ a. string_bytes a.text };
+    ghost view = { λ a. a.text };
 
-    ghost invariant = { λ a. is_text (string_bytes a.text) ≡ true };
+    ghost invariant = { λ a. is_text (a.text) ≡ true };
 }
 
 impl Text {
@@ -44,7 +45,7 @@ impl Text {
         requires { names.is_text text.now ≡ true }
         ensures { IfOk result (λ t. t ≡ text.now) }
     {
-        let text = String::from_str(alloc, text)?;
+        let text = Chars::of(alloc, text)?;
         Ok(Text { text })
     }
 
@@ -82,7 +83,7 @@ impl PartialEq for Text {
     ghost laws = { partial_equiv_from_equiv nat_list_eq_equiv };
 
     fn eq(&self, other: &Text) -> bool {
-        self.text == other.text
+        self.as_str() == other.as_str()
     }
 }
 

@@ -1,3 +1,4 @@
+use crate::chars::Chars;
 use crate::duplicate::Duplicate;
 use crate::refusal::Refusal;
 use crate::rules::is_name;
@@ -11,23 +12,23 @@ use std::marker::{Model, PhantomData};
 /// types.
 #[derive(Drop)]
 pub struct Word<K> {
-    text: String,
+    text: Chars,
     kind: PhantomData<K>,
 }
 
 impl<K> Model for Word<K> {
-    ghost use Rattle.std.specs.Prelude.{◌≡◌, ℕ, List, true, string_bytes};
+    ghost use Rattle.std.specs.Prelude.{◌≡◌, ℕ, List, true};
     ghost use Rattle.ticket_items.specs.Names.{is_name};
 
     ghost Value = { List ℕ };
 
-    ghost view = { λ a. string_bytes a.text };
+    ghost view = { λ a. a.text };
 
-    ghost invariant = { λ a. is_name (string_bytes a.text) ≡ true };
+    ghost invariant = { λ a. is_name a.text ≡ true };
 }
 
 impl<K> Word<K> {
-    ghost use Rattle.std.specs.Prelude.{◌≡◌, true, false, string_bytes, IfOk, IfErr};
+    ghost use Rattle.std.specs.Prelude.{◌≡◌, true, false, IfOk, IfErr};
     ghost use Rattle.ticket_items.specs.Names as names;
 
     /// The word that the text is. Refuses `BadId` where it is none, and then needs no memory.
@@ -51,22 +52,11 @@ impl<K> Word<K> {
         requires { names.is_name text.now ≡ true }
         ensures { IfOk result (λ word. word ≡ text.now) }
     {
-        let text = String::from_str(alloc, text)?;
+        let text = Chars::of(alloc, text)?;
         Ok(Word {
             text,
             kind: PhantomData,
         })
-    }
-
-    /// The word of a text that is one.
-    pub(crate) fn from_text(text: String) -> Word<K>
-        requires { names.is_name (string_bytes text) ≡ true }
-        ensures { result ≡ string_bytes text }
-    {
-        Word {
-            text,
-            kind: PhantomData,
-        }
     }
 
     /// Its characters.
@@ -109,7 +99,7 @@ impl<K> PartialEq for Word<K> {
     ghost laws = { partial_equiv_from_equiv nat_list_eq_equiv };
 
     fn eq(&self, other: &Word<K>) -> bool {
-        self.text == other.text
+        self.as_str() == other.as_str()
     }
 }
 
@@ -129,7 +119,7 @@ impl<K> Hash for Word<K> {
     ghost respects_eq = { Prim.search (hashing, rules) };
 
     fn hash<H: Hasher>(&self, state: &mut H) {
-        self.text.hash(state);
+        self.as_str().hash(state);
     }
 }
 
@@ -165,6 +155,6 @@ impl<K> Ord for Word<K> {
     ghost matches_eq = { Prim.search (comparing, rules) };
 
     fn cmp(&self, other: &Word<K>) -> Ordering {
-        self.text.cmp(&other.text)
+        self.as_str().cmp(other.as_str())
     }
 }

@@ -184,7 +184,6 @@ fn enter(
         (spawning.new_record ticket.old.rows id node worker rw.now at)) (Some id)
         holders.old holders.new) }
     ensures holders_stay { OnErr result (IsSame holders.old holders.new) }
-    ensures valid { OnOk result (IsValid ticket.old.rows) }
 {
     let before = records.len();
     records.push(new_record(alloc, ticket, id, node, worker, rw, at)?)?;
