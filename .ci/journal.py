@@ -55,6 +55,23 @@ def noted_at(file="mis"):
 # ---- one command
 
 
+def what_is_no_journal_is_left():
+    """A file that begins as no journal does gets no line: a controller's state would be lost."""
+    begin()
+    with open("peers.json", "w", encoding="utf-8") as peers:
+        peers.write('{"mis":"http://127.0.0.1:9/jmf"}')
+    for name in ("mis", "peers.json"):
+        before = content(name)
+        told = f"Refused 57 SaveFailed: {name}: it is no journal\n"
+        wants(run("order", "mis", "--at", AT, "--journal", name, given=note()), (4, "", told))
+        wants(run("serve", "mis", "--listen", "127.0.0.1:0", "--journal", name), (4, "", told))
+        wants(content(name), before)
+    with open("journal", "w", encoding="utf-8") as journal:
+        journal.write('{"By":"ui')
+    wants(run("order", "mis", "--at", AT, "--journal", "journal", given=note()), (0, "Edited\n", ""))
+    assert content("journal").startswith(b'{"By":"ui\n{"By":"uid:'), content("journal")
+
+
 def each_step_has_its_line():
     open_shop()
     words = ("--journal", "journal")
@@ -326,7 +343,7 @@ def a_killed_server():
           f"{len(at_once)} answered at once")
 
 
-TESTS = [each_step_has_its_line, what_is_refused_has_no_line,
+TESTS = [what_is_no_journal_is_left, each_step_has_its_line, what_is_refused_has_no_line,
          a_journal_that_cannot_be_opened_stops_all, a_line_that_was_cut_stands_alone,
          an_append_that_fails_later, a_full_disk_is_noted,
          orders_at_once_stand_in_the_order_of_their_steps, killed_orders, a_server_has_its_lines,

@@ -15,8 +15,12 @@ use Rattle.stored_state.specs.declared.taken_bytes.TakenBytes.{TakenBytes}
 use Rattle.streams.specs.Streams.{Traffic}
 use Rattle.file_commands.specs.Commands.{Steps}
 use Rattle.file_commands.specs.Step.{is_refused, step_lines}
-use Rattle.cell_commands.specs.Calls.{DoesStep}
-use Rattle.cell_commands.specs.Given.{GivesBytes, GivesBytesLine, GivesBytesNoting, GivesStep}
+use Rattle.jdf_words.specs.declared.kept_call.KeptCall.{KeptCall}
+use Rattle.jdf_words.specs.declared.kept_call.KeptCall.TheVariants.{List as Listing, New, Order, Show, Take}
+use Rattle.file_commands.specs.Notes.{no_notes, notes_of_order}
+use Rattle.cell_commands.specs.Calls.{DoesStep, IsOutputInCell}
+use Rattle.cell_commands.proofs.Begun.{any_begins}
+use Rattle.cell_commands.specs.Given.{GivesBytes, GivesBytesLine, GivesBytesNoting, GivesLine, GivesStep}
 use Rattle.cell_commands.specs.Steps.{MakesOrder, MakesStep, MakesTaking}
 use Rattle.cells.proofs.Keeping.{stepped_since}
 
@@ -74,24 +78,55 @@ since_line IsStep is_honest old mid new bytes reply sent held is_missed IsLine b
 }
 
 -- of a cell of which nothing is promised
+any_bytes : (IsStep : Steps) (is_honest : Bool) (old new : List Version) (bytes : List ℕ) (reply : Result Reply Refusal) (sent : Option (List ℕ)) (after : AnyController) → GivesBytes IsStep is_honest old new bytes reply sent after → GivesBytes IsStep false [] [] bytes reply sent after
+any_bytes IsStep is_honest old new bytes reply sent after gives = record {
+  held = gives.held;
+  text = gives.text;
+  makes = gives.makes;
+  stepped = λ honest. absurd (true≢false (sym honest));
+}
+
 pub any_noting : (IsStep : Steps) (is_honest : Bool) (old new : List Version) (bytes : List ℕ) (reply : Result Reply Refusal) (sent : Option (List ℕ)) (behind : AnyController → List ℕ) (notes : List ℕ) → GivesBytesNoting IsStep is_honest old new bytes reply sent behind notes → GivesBytesNoting IsStep false [] [] bytes reply sent behind notes
 any_noting IsStep is_honest old new bytes reply sent behind notes gives = record {
   after = gives.after;
-  gives = record {
-    held = gives.gives.held;
-    text = gives.gives.text;
-    makes = gives.gives.makes;
-    stepped = λ honest. absurd (true≢false (sym honest));
-  };
+  gives = any_bytes IsStep is_honest old new bytes reply sent gives.after gives.gives;
   noted = gives.noted;
 }
 
+pub any_line : {J : Type 0} (IsStep : Steps) (is_honest : Bool) (old new : List Version) (input : Traffic) (reply : Result Reply Refusal) (sent : Option (List ℕ)) (held : J → List ℕ) (is_missed : J → Bool) (IsLine : List ℕ → List ℕ → Reply → List ℕ → Type 0) (before behind : J) → GivesLine IsStep is_honest old new input reply sent held is_missed IsLine before behind → GivesLine IsStep false [] [] input reply sent held is_missed IsLine before behind
+any_line IsStep is_honest old new input reply sent held is_missed IsLine before behind gives = (
+  gives.0,
+  gives.1,
+  record {
+    after = gives.2.after;
+    gives = any_bytes IsStep is_honest old new gives.0 reply sent gives.2.after gives.2.gives;
+    lines = gives.2.lines;
+  },
+)
+
 -- an order or a message gave this out, and that is written
-pub does_step : (IsStep : Steps) (notes_behind : Result Reply Refusal → AnyController → List ℕ) (is_honest : Bool) (old new : List Version) (input : Traffic) (reply : Result Reply Refusal) (sent : Option (List ℕ)) (noted text : List ℕ) (refused : Bool) (notes : List ℕ) → GivesStep IsStep is_honest old new input reply sent (notes_behind reply) noted → text ≡ step_lines reply sent → refused ≡ is_refused reply → notes ≡ noted → DoesStep IsStep notes_behind input text refused notes
+pub does_step : (IsStep : Steps) (notes_behind : Result Reply Refusal → AnyController → List ℕ) (is_honest : Bool) (old new : List Version) (input : Traffic) (reply : Result Reply Refusal) (sent : Option (List ℕ)) (noted text : List ℕ) (refused : Bool) (notes : List ℕ) → GivesStep IsStep is_honest old new input reply sent (notes_behind reply) noted → text ≡ step_lines reply sent → refused ≡ is_refused reply → notes ≡ noted → DoesStep IsStep notes_behind is_honest old new input text refused notes
 does_step IsStep notes_behind is_honest old new input reply sent noted text refused notes gives written told same = record {
   reply = reply;
   sent = sent;
-  given = (gives.0, gives.1, subst (λ n. GivesBytesNoting IsStep false [] [] gives.0 reply sent (notes_behind reply) n) (sym same) (any_noting IsStep is_honest old new gives.0 reply sent (notes_behind reply) noted gives.2));
+  given = (gives.0, gives.1, subst (λ n. GivesBytesNoting IsStep is_honest old new gives.0 reply sent (notes_behind reply) n) (sym same) gives.2);
   written = written;
   told = told;
 }
+
+any_step : (IsStep : Steps) (notes_behind : Result Reply Refusal → AnyController → List ℕ) (is_honest : Bool) (old new : List Version) (input : Traffic) (text : List ℕ) (refused : Bool) (notes : List ℕ) → DoesStep IsStep notes_behind is_honest old new input text refused notes → DoesStep IsStep notes_behind false [] [] input text refused notes
+any_step IsStep notes_behind is_honest old new input text refused notes does = record {
+  reply = does.reply;
+  sent = does.sent;
+  given = (does.given.0, does.given.1, any_noting IsStep is_honest old new does.given.0 does.reply does.sent (notes_behind does.reply) notes does.given.2);
+  written = does.written;
+  told = does.told;
+}
+
+-- any call
+pub any_output : (is_honest : Bool) (old new : List Version) (call : KeptCall) (input : Traffic) (text : List ℕ) (refused : Bool) (notes : List ℕ) → IsOutputInCell is_honest old new call input text refused notes → IsOutputInCell false [] [] call input text refused notes
+any_output is_honest old new New input text refused notes is = any_begins _ _ _ _ _ _ _ is
+any_output is_honest old new (Order at) input text refused notes is = any_step (IsOrdered at) notes_of_order is_honest old new input text refused notes is
+any_output is_honest old new (Take at) input text refused notes is = any_step (IsHanded at) no_notes is_honest old new input text refused notes is
+any_output is_honest old new (Show picture at) input text refused notes is = (is.0, (is.1.0, is.1.1, is.1.2, λ honest. absurd (true≢false (sym honest))))
+any_output is_honest old new (Listing at is_open is_json) input text refused notes is = (is.0, (is.1.0, is.1.1, is.1.2, λ honest. absurd (true≢false (sym honest))))

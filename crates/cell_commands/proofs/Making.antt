@@ -1,6 +1,6 @@
 -- A step of a text in memory.
 use Rattle.std.proofs.Common.{◌≡◌, ◌⊎◌, inl, inr, ⊎_elim, ℕ, Bool, true, false, List, refl, sym, subst, ◌∙◌}
-use Rattle.std.specs.Prelude.{Option, Result, Ok, Err, IfErr, IsErrAnd}
+use Rattle.std.specs.Prelude.{Option, Result, Ok, Err, IfErr, IfOk, IsErrAnd}
 use Rattle.json_profile.specs.ReadAs.{IsReadAs, IsRefusalOf}
 use Rattle.std.proofs.lemmas.Bool.{true≢false}
 use Rattle.ticket_items.specs.declared.refusal.Refusal.{Refusal}
@@ -67,3 +67,8 @@ not_given IsRefused IsText count bytes held keep opened after refused same loade
 pub err_told : {A E : Type 0} (P Q : E → Type 0) (r : Result A E) → IsErrAnd r P → ((e : E) → P e → Q e) → IfErr r Q
 err_told P Q (Ok a) why each = tt
 err_told P Q (Err e) why each = each e why
+
+-- what is told of an answer, and what is told of it where this holds
+pub told_if : {A E : Type 0} (H : Type 0) (P Q : A → Type 0) (r : Result A E) → IfOk r P → (H → IfOk r Q) → IfOk r (λ a. P a × (H → Q a))
+told_if H P Q (Ok a) ok seen = (ok, seen)
+told_if H P Q (Err e) ok seen = tt

@@ -1,5 +1,6 @@
--- How a call on the controller that a cell keeps ends. Nothing is known of what a cell behind a
--- socket holds: what was read is some text.
+-- How a call on the controller that a cell keeps ends. Of an honest cell it is told what that held
+-- before and holds then; of one behind a socket nothing is known of that, and what was read is some
+-- text.
 use Rattle.std.specs.Prelude.{◌≡◌, ◌⊎◌, ℕ, Bool, true, false, List, [], ◌∷◌, Option, Result}
 use Rattle.ticket_items.specs.declared.refusal.Refusal.{Refusal}
 use Rattle.jdf_words.specs.declared.kept_call.KeptCall.{KeptCall}
@@ -41,10 +42,11 @@ has_no_place text = []
 -- `order` and `take`: a step was given out, its lines are written, this tells whether it was
 -- refused, and what its reply and the state then have noted is noted
 pub record DoesStep (IsStep : Steps) (notes_behind : Result Reply Refusal → AnyController → List ℕ)
-    (input : Traffic) (text : List ℕ) (refused : Bool) (notes : List ℕ) : Type 0 where
+    (is_honest : Bool) (old new : List Version) (input : Traffic) (text : List ℕ) (refused : Bool)
+    (notes : List ℕ) : Type 0 where
   pub reply : Result Reply Refusal
   pub sent : Option (List ℕ)
-  pub given : GivesStep IsStep false [] [] input reply sent (notes_behind reply) notes
+  pub given : GivesStep IsStep is_honest old new input reply sent (notes_behind reply) notes
   pub written : text ≡ step_lines reply sent
   pub told : refused ≡ is_refused reply
 
@@ -70,30 +72,40 @@ pub record BeginsInCell (is_honest : Bool) (old new : List Version) (input : Tra
   pub accepted : refused ≡ false
   pub noted : notes ≡ []
 
--- `show` and `list`, at the moment that is named or another, of the controller whose text was read
-abbrev pub ShowsText : Bool → Option ℕ → List ℕ → Bool → List ℕ → Type 0
-ShowsText picture at text refused notes =
-    (now : ℕ) × IsMoment at now × (held : List ℕ)
-    × Shows picture now is_held text_held has_no_place held text refused notes
+-- `show` and `list`, at the moment that is named or another, of the controller whose text was read,
+-- which of an honest cell is the one that is held
+abbrev pub ShowsText : Bool → Option ℕ → Bool → List Version → List ℕ → Bool → List ℕ → Type 0
+ShowsText picture at is_honest new text refused notes =
+    (now : ℕ) × IsMoment at now
+    × ((held : List ℕ)
+    × Shows picture now is_held text_held has_no_place held text refused notes)
+    × (is_honest ≡ true
+    → Shows picture now is_held text_held has_no_place (newest new).bytes text refused notes)
 
-abbrev pub ListsText : Bool → Bool → Option ℕ → List ℕ → Bool → List ℕ → Type 0
-ListsText is_open is_json at text refused notes =
-    (now : ℕ) × IsMoment at now × (held : List ℕ)
+abbrev pub ListsText : Bool → Bool → Option ℕ → Bool → List Version → List ℕ → Bool → List ℕ → Type 0
+ListsText is_open is_json at is_honest new text refused notes =
+    (now : ℕ) × IsMoment at now
+    × ((held : List ℕ)
     × ListsOne (record { is_open = is_open; is_json = is_json; now = now }) is_held text_held held
-    text refused notes
+    text refused notes)
+    × (is_honest ≡ true
+    → ListsOne (record { is_open = is_open; is_json = is_json; now = now }) is_held text_held
+    (newest new).bytes text refused notes)
 
--- what a call writes, whether something that was asked for was refused, and what is noted
-abbrev pub IsOutputInCell : KeptCall → Traffic → List ℕ → Bool → List ℕ → Type 0
-IsOutputInCell New input text refused notes =
-    BeginsInCell false [] [] input text refused notes
-IsOutputInCell (Order at) input text refused notes =
-    DoesStep (IsOrdered at) notes_of_order input text refused notes
-IsOutputInCell (Take at) input text refused notes =
-    DoesStep (IsHanded at) no_notes input text refused notes
-IsOutputInCell (Show picture at) input text refused notes =
-    IsUntouched input × ShowsText picture at text refused notes
-IsOutputInCell (Listing at is_open is_json) input text refused notes =
-    IsUntouched input × ListsText is_open is_json at text refused notes
+-- what a call writes, whether something that was asked for was refused, and what is noted; and what
+-- an honest cell holds then
+abbrev pub IsOutputInCell : Bool → (old new : List Version) → KeptCall → Traffic → List ℕ → Bool
+    → List ℕ → Type 0
+IsOutputInCell is_honest old new New input text refused notes =
+    BeginsInCell is_honest old new input text refused notes
+IsOutputInCell is_honest old new (Order at) input text refused notes =
+    DoesStep (IsOrdered at) notes_of_order is_honest old new input text refused notes
+IsOutputInCell is_honest old new (Take at) input text refused notes =
+    DoesStep (IsHanded at) no_notes is_honest old new input text refused notes
+IsOutputInCell is_honest old new (Show picture at) input text refused notes =
+    IsUntouched input × ShowsText picture at is_honest new text refused notes
+IsOutputInCell is_honest old new (Listing at is_open is_json) input text refused notes =
+    IsUntouched input × ListsText is_open is_json at is_honest new text refused notes
 
 -- ---- why nothing is
 
@@ -124,6 +136,6 @@ IsFaultInCell (Listing at is_open is_json) input e = IsUntouched input × IsNotT
 abbrev pub EndsInCell : KeptCall → Traffic → Traffic → Traffic → ℕ → Type 0
 EndsInCell call input output told status =
     ((text : List ℕ) × (refused : Bool) × (notes : List ℕ)
-    × IsOutputInCell call input text refused notes
+    × IsOutputInCell false [] [] call input text refused notes
     × GivesOutNoting text refused notes output told status)
     ⊎ ((e : CellFault) × IsFaultInCell call input e × GivesUpCaused (fault_in e) output told status)

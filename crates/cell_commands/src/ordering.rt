@@ -1,8 +1,7 @@
 //! Orders to the controller that a cell keeps.
 
-ghost use Rattle.std.specs.Prelude.{◌≡◌, ◌⊎◌, ◌≤◌, true, option_map, IfErr, IfOk};
+ghost use Rattle.std.specs.Prelude.{◌≡◌, ◌≤◌, true, option_map, IfErr, IfOk};
 ghost use Rattle.cells.specs.Chain.{newest};
-ghost use Rattle.journal.specs.Journal.{IsLeft};
 ghost use Rattle.journal.specs.Line.{who};
 ghost use Rattle.streams.specs.Streams.{IsUntouched, traffic};
 ghost use Rattle.stored_state.specs.AnyStep.{IsNoOrder, IsOrdered, text_of};
@@ -10,9 +9,10 @@ ghost use Rattle.stored_state.specs.Opened.{controller_in};
 ghost use Rattle.stored_state.specs.declared.any_controller.AnyController.{AnyController};
 ghost use Rattle.file_commands.specs.Journaled.{IsOrderLine};
 ghost use Rattle.file_commands.specs.Notes.{notes_of_order};
-ghost use Rattle.cell_commands.specs.Faults.{DoesNone, DoesNoneOf, out_of_memory};
+ghost use Rattle.cell_commands.specs.Faults.{DoesNone, DoesNoneOf};
 ghost use Rattle.cell_commands.specs.Given.{GivesBytesNoting, GivesBytesLine};
 ghost use Rattle.cell_commands.specs.Given.{GivesLine, GivesStep};
+ghost use Rattle.cell_commands.specs.Journaled.{JournalsNone};
 ghost use Rattle.cell_commands.specs.Steps.{IsNoStep, MakesOrder, MakesStep};
 
 use crate::cell_fault::CellFault;
@@ -101,7 +101,7 @@ fn order_given<C: Cell, J: Journal>(
         (option_map (λ b. b.items) given.message) J.held J.is_missed
         (λ name. IsOrderLine (who by.entry) name at input.now) journal.old journal.new) }
     ensures unsaved { IfErr result (λ e. J.is_honest journal.old ≡ true →
-        IsLeft J.held J.is_missed journal.old journal.new ⊎ (e ≡ out_of_memory)) }
+        JournalsNone J.held J.is_missed journal.old journal.new e) }
 {
     let stepped = step_in_cell(alloc, keep, &OrderStep { input, at })?;
     let (given, opened) = stepped?;
@@ -150,7 +150,7 @@ pub fn order_in_cell<C: Cell, I: Read, J: Journal>(
         (option_map (λ b. b.items) given.message) J.held J.is_missed
         (λ name bytes. IsOrderLine (who by.entry) name at bytes) journal.old journal.new) }
     ensures unsaved { IfErr result (λ e. J.is_honest journal.old ≡ true →
-        IsLeft J.held J.is_missed journal.old journal.new ⊎ (e ≡ out_of_memory)) }
+        JournalsNone J.held J.is_missed journal.old journal.new e) }
 {
     look(alloc, keep)?;
     let input = read_input(alloc, reader)?;

@@ -1,7 +1,9 @@
 //! What the calls on the controller that a cell keeps write.
 
-ghost use Rattle.std.specs.Prelude.{◌≡◌, [], false, IfErr, IfOk};
+ghost use Rattle.std.specs.Prelude.{◌≡◌, [], false, true, None, IfErr, IfOk};
+ghost use Rattle.jdf_words.specs.declared.kept_call.KeptCall.TheVariants.{Order, Take};
 ghost use Rattle.jmf_message.specs.Decoded.{IsRefusalOf as IsUndecoded};
+ghost use Rattle.journal.specs.Line.{who};
 ghost use Rattle.stored_state.specs.AnyStep.{IsHanded, IsNoOrder, IsOrdered, text_of};
 ghost use Rattle.stored_state.specs.Opened.{controller_in};
 ghost use Rattle.streams.specs.Streams.{traffic};
@@ -9,6 +11,7 @@ ghost use Rattle.file_commands.specs.Notes.{no_notes, notes_of_order};
 ghost use Rattle.cell_commands.specs.Calls.{BeginsInCell, BeginsNone, DoesStep};
 ghost use Rattle.cell_commands.specs.Calls.{IsFaultInCell, IsOutputInCell, ListsText, ShowsText};
 ghost use Rattle.cell_commands.specs.Faults.{DoesNone, IsNotTold};
+ghost use Rattle.cell_commands.specs.Journaled.{JournalsInCell, JournalsNone};
 
 use crate::beginning::new_in_cell;
 use crate::cell_fault::CellFault;
@@ -46,8 +49,8 @@ fn new_output<C: Cell, I: Read>(
     cell: C,
     reader: &mut Counted<I>,
 ) -> Result<OutputWithNotes, CellFault>
-    ensures ok { IfOk result (λ noted. BeginsInCell false [] []
-        (traffic I.remaining reader.old reader.new)
+    ensures ok { IfOk result (λ noted. (after : C) × BeginsInCell C.is_honest
+        (C.view cell).chain (C.view after).chain (traffic I.remaining reader.old reader.new)
         noted.output.text.items noted.output.refused noted.notes.items) }
     ensures refused { IfErr result (BeginsNone (traffic I.remaining reader.old reader.new)) }
 {
@@ -65,11 +68,18 @@ fn order_output<C: Cell, I: Read, J: Journal>(
     reader: &mut Counted<I>,
     journal: &mut J,
 ) -> Result<OutputWithNotes, CellFault>
-    ensures ok { IfOk result (λ noted. DoesStep (IsOrdered at) notes_of_order
+    ensures ok { IfOk result (λ noted. (after : C) × DoesStep (IsOrdered at) notes_of_order
+        C.is_honest (C.view cell).chain (C.view after).chain
         (traffic I.remaining reader.old reader.new)
         noted.output.text.items noted.output.refused noted.notes.items) }
     ensures refused { IfErr result
         (DoesNone IsNoOrder (traffic I.remaining reader.old reader.new)) }
+    ensures journal { IfOk result (λ noted. J.is_honest journal.old ≡ true →
+        JournalsInCell J.held J.is_missed (who by.entry) (Order at)
+        (traffic I.remaining reader.old reader.new) noted.output.text.items
+        journal.old journal.new) }
+    ensures unsaved { IfErr result (λ e. J.is_honest journal.old ≡ true →
+        JournalsNone J.held J.is_missed journal.old journal.new e) }
 {
     let mut keep = CellKeep::over(alloc, cell);
     let given = order_in_cell(alloc, &mut keep, at, by, reader, journal)?;
@@ -89,11 +99,18 @@ fn take_output<C: Cell, I: Read, J: Journal>(
     reader: &mut Counted<I>,
     journal: &mut J,
 ) -> Result<OutputWithNotes, CellFault>
-    ensures ok { IfOk result (λ noted. DoesStep (IsHanded at) no_notes
+    ensures ok { IfOk result (λ noted. (after : C) × DoesStep (IsHanded at) no_notes
+        C.is_honest (C.view cell).chain (C.view after).chain
         (traffic I.remaining reader.old reader.new)
         noted.output.text.items noted.output.refused noted.notes.items) }
     ensures refused { IfErr result
         (DoesNone (λ bytes _. IsUndecoded bytes) (traffic I.remaining reader.old reader.new)) }
+    ensures journal { IfOk result (λ noted. J.is_honest journal.old ≡ true →
+        JournalsInCell J.held J.is_missed None (Take at)
+        (traffic I.remaining reader.old reader.new) noted.output.text.items
+        journal.old journal.new) }
+    ensures unsaved { IfErr result (λ e. J.is_honest journal.old ≡ true →
+        JournalsNone J.held J.is_missed journal.old journal.new e) }
 {
     let mut keep = CellKeep::over(alloc, cell);
     let given = take_in_cell(alloc, &mut keep, at, reader, journal)?;
@@ -112,7 +129,8 @@ fn show_output<C: Cell, R: Clock>(
     picture: bool,
     at: Option<u64>,
 ) -> Result<OutputWithNotes, CellFault>
-    ensures ok { IfOk result (λ noted. ShowsText picture at
+    ensures ok { IfOk result (λ noted. (after : C) × ShowsText picture at C.is_honest
+        (C.view after).chain
         noted.output.text.items noted.output.refused noted.notes.items) }
     ensures refused { IfErr result (IsNotTold at) }
 {
@@ -130,7 +148,8 @@ fn list_output<C: Cell, R: Clock>(
     is_json: bool,
     at: Option<u64>,
 ) -> Result<OutputWithNotes, CellFault>
-    ensures ok { IfOk result (λ noted. ListsText is_open is_json at
+    ensures ok { IfOk result (λ noted. (after : C) × ListsText is_open is_json at C.is_honest
+        (C.view after).chain
         noted.output.text.items noted.output.refused noted.notes.items) }
     ensures refused { IfErr result (IsNotTold at) }
 {
@@ -156,14 +175,25 @@ pub fn output_in_cell<C: Cell, R: Clock, I: Read, J: Journal>(
     journal: &mut J,
 ) -> Result<OutputWithNotes, CellFault>
     // Proved: A call on a cell writes and notes what its command does, at its time, of a controller
-    // whose text the cell gave; or it is told why not.
-    // Not proved: what the cell and the journal hold then; of them `new_in_cell`, `order_in_cell`
-    // and `take_in_cell` tell.
-    ensures ok { IfOk result (λ noted. IsOutputInCell call
+    // whose text the cell gave; or it is told why not. Of an honest cell what it writes is of the
+    // controller that is held, and the cell holds behind it what the call's step leaves, or the
+    // controller that it began. An honest journal holds then the line of the step whose lines are
+    // written, once; where there is none, what it held, unless memory ran out behind the save.
+    // By `ok`, `refused`, `journal`, `unsaved`.
+    // Not proved: what the cell holds where the call gives up; of that `order_in_cell` and
+    // `take_in_cell` tell.
+    ensures ok { IfOk result (λ noted. (after : C) × IsOutputInCell C.is_honest
+        (C.view cell).chain (C.view after).chain call
         (traffic I.remaining reader.old reader.new)
         noted.output.text.items noted.output.refused noted.notes.items) }
     ensures refused { IfErr result
         (IsFaultInCell call (traffic I.remaining reader.old reader.new)) }
+    ensures journal { IfOk result (λ noted. J.is_honest journal.old ≡ true →
+        JournalsInCell J.held J.is_missed (who by.entry) call
+        (traffic I.remaining reader.old reader.new) noted.output.text.items
+        journal.old journal.new) }
+    ensures unsaved { IfErr result (λ e. J.is_honest journal.old ≡ true →
+        JournalsNone J.held J.is_missed journal.old journal.new e) }
 {
     match call {
         KeptCall::New => new_output(alloc, cell, reader),

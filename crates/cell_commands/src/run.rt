@@ -1,8 +1,9 @@
 //! The calls of the program on a controller that etcd keeps.
 
-ghost use Rattle.std.specs.Prelude.{◌≡◌, IfErr, IfOk};
+ghost use Rattle.std.specs.Prelude.{◌≡◌, ℕ, [], false, true, List, Option, IfErr, IfOk};
 ghost use Rattle.cell_commands.specs.Calls.{EndsInCell, IsFaultInCell, IsOutputInCell};
 ghost use Rattle.cell_commands.specs.Faults.{fault_in};
+ghost use Rattle.cell_commands.specs.Journaled.{EndsJournaled, JournalsInCell, JournalsNone};
 ghost use Rattle.streams.specs.Streams.{traffic};
 
 use crate::cell_fault::CellFault;
@@ -102,11 +103,17 @@ fn output_at<R: Locks + Net + Clock, I: Read, J: Journal>(
     reader: &mut Counted<I>,
     journal: &mut J,
 ) -> Result<OutputWithNotes, CellFault>
-    ensures ok { IfOk result (λ noted. IsOutputInCell call
+    ensures ok { IfOk result (λ noted. IsOutputInCell false [] [] call
         (traffic I.remaining reader.old reader.new)
         noted.output.text.items noted.output.refused noted.notes.items) }
     ensures refused { IfErr result
         (IsFaultInCell call (traffic I.remaining reader.old reader.new)) }
+    ensures journal { IfOk result (λ noted. J.is_honest journal.old ≡ true →
+        (by : Option (List ℕ)) × JournalsInCell J.held J.is_missed by call
+        (traffic I.remaining reader.old reader.new) noted.output.text.items
+        journal.old journal.new) }
+    ensures unsaved { IfErr result (λ e. J.is_honest journal.old ≡ true →
+        JournalsNone J.held J.is_missed journal.old journal.new e) }
 {
     let by = typist(rt, alloc, journal);
     let cell = match place.cell(rt, alloc, Duration::from_secs(EXCHANGE_SECONDS)) {
@@ -133,12 +140,20 @@ pub fn run_in_cell<R: Locks + Net + Clock, I: Read, W: Write, F: Write, J: Journ
     // Proved: A call on a controller that etcd keeps ends with what its command writes, at its
     // time, or with the line and the status of a fault. A text that begins with `etcd://` and is
     // no place there has the status of words that stand for no call.
-    // By `refuse_place`.
+    // By `ends`; `refuse_place`.
+    // Proved: An honest journal holds behind such a call the line of the step whose lines that
+    // wrote, once; where it was refused or gave up, and behind each call that makes no step, what
+    // it held, unless memory ran out behind the save.
+    // By `journal`.
     // Not proved: what stands behind the refusal of a load or a save, that what etcd gave was held,
-    // and what is saved there and journaled.
-    ensures { EndsInCell call (traffic I.remaining reader.old reader.new)
+    // and what is saved there.
+    ensures ends { EndsInCell call (traffic I.remaining reader.old reader.new)
         (traffic W.contents writer.old writer.new)
         (traffic F.contents faults.old faults.new) result }
+    ensures journal { J.is_honest journal.old ≡ true → EndsJournaled J.held J.is_missed call
+        (traffic I.remaining reader.old reader.new)
+        (traffic W.contents writer.old writer.new)
+        (traffic F.contents faults.old faults.new) result journal.old journal.new }
 {
     match output_at(rt, alloc, place, call, reader, journal) {
         Ok(noted) => finish_noting(Ok(noted), writer, faults),

@@ -1,4 +1,4 @@
 pub mod Commands
 pub mod ListedFiles
 mod Told
-mod Journaled
+pub mod Journaled

@@ -20,6 +20,7 @@ use Rattle.streams.specs.Streams.{IsUntouched, Traffic}
 use Rattle.streams.specs.declared.fault.Fault.{Fault}
 use Rattle.file_commands.specs.Calls.{DoesNone, IsNotSeen}
 use Rattle.file_commands.specs.Commands.{Begins, BeginsNone, DoesStep, IsMoment, Shows}
+use Rattle.file_commands.specs.Journaled.{JournalsInFile, JournalsNone}
 use Rattle.file_commands.specs.Listing.{ListsAt}
 use Rattle.file_commands.specs.Notes.{GivesOutNoting, no_notes, notes_of_order}
 
@@ -72,4 +73,15 @@ EndsInFile file call input output told status =
     × IsOutputInFile file call input text refused notes
     × GivesOutNoting text refused notes output told status)
     ⊎ ((fault : Fault) × IsFaultInFile file call input fault
+    × GivesUpInFile call fault output told status)
+
+-- such a call leaves in a journal what its output tells; where it gives up, nothing, unless memory
+-- ran out
+abbrev pub EndsJournaled : {J : Type 0} → (J → List ℕ) → (J → Bool) → List ℕ → KeptCall → Traffic
+    → Traffic → Traffic → ℕ → J → J → Type 0
+EndsJournaled held_by is_missed file call input output told status old new =
+    ((text : List ℕ) × (refused : Bool) × (notes : List ℕ)
+    × JournalsInFile held_by is_missed file call input text old new
+    × GivesOutNoting text refused notes output told status)
+    ⊎ ((fault : Fault) × JournalsNone held_by is_missed old new fault
     × GivesUpInFile call fault output told status)

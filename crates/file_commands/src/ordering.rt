@@ -1,7 +1,8 @@
 //! Orders to the controller in a file.
 
-ghost use Rattle.std.specs.Prelude.{◌≡◌, ◌⊎◌, true, IfOk, IfErr, OnErr};
+ghost use Rattle.std.specs.Prelude.{◌≡◌, true, IfOk, IfErr, OnErr};
 ghost use Rattle.std.specs.Option.{option_map};
+ghost use Rattle.jdf_words.specs.declared.kept_call.KeptCall.TheVariants.{Order};
 ghost use Rattle.journal.specs.Journal.{IsJournaled, IsLeft};
 ghost use Rattle.journal.specs.Line.{who};
 ghost use Rattle.keepers.specs.InFile.{InFile};
@@ -10,7 +11,8 @@ ghost use Rattle.file_commands.specs.Calls as calls;
 ghost use Rattle.file_commands.specs.Calls.{DoesNone, DoesNoneOf};
 ghost use Rattle.file_commands.specs.Commands.{DoesNoStep, DoesStep, GivesHeld};
 ghost use Rattle.file_commands.specs.Commands.{GivesNoting, GivesStepOf};
-ghost use Rattle.file_commands.specs.Journaled.{IsOrderLine, OrdersJournaled};
+ghost use Rattle.file_commands.specs.Journaled.{IsOrderLine, JournalsInFile, JournalsNone};
+ghost use Rattle.file_commands.specs.Journaled.{OrderJournaled};
 ghost use Rattle.file_commands.specs.Notes.{notes_of_order};
 ghost use Rattle.file_commands.specs.Step.{is_refused, step_lines};
 ghost use Rattle.stored_state.specs.Addressee.{name_of};
@@ -112,7 +114,7 @@ fn order_given<K: Keep, J: Journal>(
         (IsOrderLine (who by.entry) (name_of after.controller) at input.now)
         given.reply journal.old journal.new) }
     ensures unsaved { IfErr result (λ fault. J.is_honest journal.old ≡ true →
-        IsLeft J.held J.is_missed journal.old journal.new ⊎ (fault ≡ Input (Core Memory))) }
+        JournalsNone J.held J.is_missed journal.old journal.new fault) }
 {
     let (given, opened) = order_held(alloc, keep, seen, input, at, by, journal)?;
     let notes = notes_of_order(alloc, &given.reply, &opened)?;
@@ -150,7 +152,7 @@ fn order_locked<R: Locks, J: Journal>(
         (IsOrderLine (who by.entry) (name_of after.controller) at input.now)
         given.reply journal.old journal.new) }
     ensures unsaved { IfErr result (λ fault. J.is_honest journal.old ≡ true →
-        IsLeft J.held J.is_missed journal.old journal.new ⊎ (fault ≡ Input (Core Memory))) }
+        JournalsNone J.held J.is_missed journal.old journal.new fault) }
 {
     match locked_keep(rt, alloc, file) {
         Ok(keep) => order_given(alloc, keep, Some(seen), input, at, by, journal),
@@ -204,11 +206,11 @@ pub fn order_in_file<R: Locks, I: Read, J: Journal>(
     // misses it, which is told; where nothing was saved it is left as it was.
     // By `journal`, `unsaved`; `take_in_file`: `journal`, `unsaved`.
     ensures journal { IfOk result (λ given. J.is_honest journal.old ≡ true →
-        OrdersJournaled J.held J.is_missed at (calls.keep_in_file file.now)
+        OrderJournaled J.held J.is_missed at (calls.keep_in_file file.now)
         (traffic I.remaining reader.old reader.new) given.reply
         (option_map (λ b. b.items) given.message) journal.old journal.new) }
     ensures unsaved { IfErr result (λ fault. J.is_honest journal.old ≡ true →
-        IsLeft J.held J.is_missed journal.old journal.new ⊎ (fault ≡ Input (Core Memory))) }
+        JournalsNone J.held J.is_missed journal.old journal.new fault) }
 {
     let snapshot = snapshot_of(rt, alloc, file)?;
     let input = read_input(alloc, reader)?;
@@ -265,11 +267,18 @@ pub(crate) fn order_output<R: Locks, I: Read, J: Journal>(
         noted.output.text.items noted.output.refused noted.notes.items) }
     ensures refused { IfErr result (DoesNone IsNoOrder (IsOrdered at)
         file.now (traffic I.remaining reader.old reader.new)) }
+    ensures journal { IfOk result (λ noted. J.is_honest journal.old ≡ true →
+        JournalsInFile J.held J.is_missed file.now (Order at)
+        (traffic I.remaining reader.old reader.new) noted.output.text.items
+        journal.old journal.new) }
+    ensures unsaved { IfErr result (λ fault. J.is_honest journal.old ≡ true →
+        JournalsNone J.held J.is_missed journal.old journal.new fault) }
 {
+    let given = order_in_file(rt, alloc, file, at, reader, journal)?;
     let OrderOutput {
         reply,
         message,
         notes,
-    } = order_in_file(rt, alloc, file, at, reader, journal)?;
+    } = given;
     order_noted(alloc, reply, &message, notes)
 }

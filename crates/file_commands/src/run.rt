@@ -1,6 +1,6 @@
 //! The calls of the program on a controller that is kept in a file.
 
-ghost use Rattle.std.specs.Prelude.{◌≡◌, Bool, [], false, IfErr, IfOk};
+ghost use Rattle.std.specs.Prelude.{◌≡◌, Bool, [], false, true, IfErr, IfOk};
 ghost use Rattle.keepers.specs.InFile.{InFile};
 ghost use Rattle.keepers.specs.OnDisk.{OnDisk};
 ghost use Rattle.keepers.specs.SystemFile as files;
@@ -8,7 +8,9 @@ ghost use Rattle.stored_state.specs.Held.{KeptState};
 ghost use Rattle.stored_state.specs.declared.addressee.Addressee.{Addressee};
 ghost use Rattle.stored_state.specs.declared.any_controller.AnyController.{AnyController};
 ghost use Rattle.file_commands.specs.Commands.{Begins, BeginsNone};
-ghost use Rattle.file_commands.specs.Ends.{EndsInFile, IsFaultInFile, IsOutputInFile, TellsInFile};
+ghost use Rattle.file_commands.specs.Ends.{EndsInFile, EndsJournaled, IsFaultInFile};
+ghost use Rattle.file_commands.specs.Ends.{IsOutputInFile, TellsInFile};
+ghost use Rattle.file_commands.specs.Journaled.{JournalsInFile, JournalsNone};
 ghost use Rattle.streams.specs.Fault.{fault_status};
 ghost use Rattle.streams.specs.Streams.{traffic};
 
@@ -67,6 +69,12 @@ fn output_in_file<R: Locks + Clock + Alloc + Clone + Drop, I: Read, J: Journal>(
         noted.output.text.items noted.output.refused noted.notes.items) }
     ensures refused { IfErr result
         (IsFaultInFile file.now call (traffic I.remaining reader.old reader.new)) }
+    ensures journal { IfOk result (λ noted. J.is_honest journal.old ≡ true →
+        JournalsInFile J.held J.is_missed file.now call
+        (traffic I.remaining reader.old reader.new) noted.output.text.items
+        journal.old journal.new) }
+    ensures unsaved { IfErr result (λ fault. J.is_honest journal.old ≡ true →
+        JournalsNone J.held J.is_missed journal.old journal.new fault) }
 {
     match call {
         KeptCall::New => new_in_file(rt, alloc, file, reader),
@@ -145,12 +153,20 @@ pub fn run_file<R: Locks + Clock + Alloc + Clone + Drop, I: Read, W: Write, F: W
     // holds its own controller, and it notes each other.
     // Proved: A call on the controller in a file ends with what its command writes, at its file and
     // time, or with the line and the status of a fault.
-    // By `output_in_file`: `ok`, `refused`; `give_up`: `told`, `status`.
+    // By `ends`; `output_in_file`: `ok`, `refused`; `give_up`: `told`, `status`.
+    // Proved: An honest journal holds behind a call the line of the step whose lines that wrote,
+    // once; where it was refused or gave up, and behind each call that makes no step, what it held,
+    // unless memory ran out behind the save.
+    // By `journal`; `output_in_file`: `journal`, `unsaved`.
     // Not proved: what stands in a file: the clauses say which place was loaded and saved, and
     // neither what it held nor why it was refused.
-    ensures { EndsInFile file.now call (traffic I.remaining reader.old reader.new)
+    ensures ends { EndsInFile file.now call (traffic I.remaining reader.old reader.new)
         (traffic W.contents writer.old writer.new)
         (traffic F.contents faults.old faults.new) result }
+    ensures journal { J.is_honest journal.old ≡ true → EndsJournaled J.held J.is_missed file.now
+        call (traffic I.remaining reader.old reader.new)
+        (traffic W.contents writer.old writer.new)
+        (traffic F.contents faults.old faults.new) result journal.old journal.new }
 {
     match output_in_file(rt, alloc, file, call, reader, journal) {
         Ok(noted) => finish_noting(Ok(noted), writer, faults),

@@ -2,6 +2,7 @@
 
 ghost use Rattle.std.specs.Prelude.{◌≡◌, true, IfOk, IfErr, OnErr};
 ghost use Rattle.std.specs.Option.{option_map};
+ghost use Rattle.jdf_words.specs.declared.kept_call.KeptCall.TheVariants.{Take};
 ghost use Rattle.journal.specs.Journal.{IsJournaled, IsLeft};
 ghost use Rattle.keepers.specs.InFile.{InFile};
 ghost use Rattle.keepers.specs.OnDisk.{OnDisk};
@@ -9,7 +10,8 @@ ghost use Rattle.file_commands.specs.Calls as calls;
 ghost use Rattle.file_commands.specs.Calls.{DoesNone, DoesNoneOf};
 ghost use Rattle.file_commands.specs.Commands.{DoesNoStep, DoesStep, GivesHeld};
 ghost use Rattle.file_commands.specs.Commands.{GivesStepOf};
-ghost use Rattle.file_commands.specs.Journaled.{IsMessageLine};
+ghost use Rattle.file_commands.specs.Journaled.{IsMessageLine, JournalsInFile, JournalsNone};
+ghost use Rattle.file_commands.specs.Journaled.{MessageJournaled};
 ghost use Rattle.file_commands.specs.Notes.{no_notes};
 ghost use Rattle.jmf_message.specs.Decoded.{IsRefusalOf};
 ghost use Rattle.stored_state.specs.Addressee.{name_of};
@@ -143,6 +145,10 @@ fn take_input<R: Locks, I: Read, J: Journal>(
         given.reply (option_map (λ b. b.items) given.answer)) }
     ensures refused { IfErr result (DoesNone (λ bytes _. IsRefusalOf bytes) (IsHanded at)
         file.now (traffic I.remaining reader.old reader.new)) }
+    ensures journal { IfOk result (λ given. J.is_honest journal.old ≡ true →
+        MessageJournaled J.held J.is_missed at (calls.keep_in_file file.now)
+        (traffic I.remaining reader.old reader.new) given.reply
+        (option_map (λ b. b.items) given.answer) journal.old journal.new) }
     ensures unsaved { OnErr result (J.is_honest journal.old ≡ true →
         IsLeft J.held J.is_missed journal.old journal.new) }
 {
@@ -174,6 +180,12 @@ pub(crate) fn take_output<R: Locks, I: Read, J: Journal>(
         noted.output.text.items noted.output.refused noted.notes.items) }
     ensures refused { IfErr result (DoesNone (λ bytes _. IsRefusalOf bytes) (IsHanded at)
         file.now (traffic I.remaining reader.old reader.new)) }
+    ensures journal { IfOk result (λ noted. J.is_honest journal.old ≡ true →
+        JournalsInFile J.held J.is_missed file.now (Take at)
+        (traffic I.remaining reader.old reader.new) noted.output.text.items
+        journal.old journal.new) }
+    ensures unsaved { IfErr result (λ fault. J.is_honest journal.old ≡ true →
+        JournalsNone J.held J.is_missed journal.old journal.new fault) }
 {
     let given = take_input(rt, alloc, file, at, reader, journal)?;
     match step_output(alloc, given.reply, &given.answer) {

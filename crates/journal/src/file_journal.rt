@@ -17,6 +17,8 @@ pub struct FileJournal<'a, R: Files> {
 }
 
 impl<'a, R: Files> FileJournal<'a, R> {
+    ghost use Rattle.std.specs.Prelude.{◌≡◌, ◌&&◌, IfOk, is_some};
+
     /// The journal in the file of this path, if there is one.
     pub fn at(rt: &'a R, path: Option<&'a str>) -> FileJournal<'a, R> {
         FileJournal {
@@ -26,19 +28,24 @@ impl<'a, R: Files> FileJournal<'a, R> {
         }
     }
 
-    /// Sees whether the file can be opened, and makes it where it isn't there.
+    /// Sees whether the file can be opened, and makes it where it isn't there. Refuses a file that
+    /// begins as no journal does, as the one of a controller, to which a line would do harm.
     pub fn check(&self) -> io::Result<()> {
         match self.path {
             Some(path) => {
-                open_file(self.rt, path)?;
-                Ok(())
+                let mut file = open_file(self.rt, path)?;
+                let length = file.metadata()?.len();
+                check_front(&mut file, length)
             }
             None => Ok(()),
         }
     }
 
     /// The note that lines aren't in it, if there are such. A line.
-    pub fn note(&self, alloc: Global) -> Result<Option<String>, AllocError> {
+    pub fn note(&self, alloc: Global) -> Result<Option<String>, AllocError>
+        ensures { IfOk result (λ note.
+            is_some note ≡ (is_some self.now.path && is_some self.now.missed)) }
+    {
         match (self.path, &self.missed) {
             (Some(path), Some(error)) => Ok(Some(missed_note(alloc, path, error)?)),
             _ => Ok(None),
@@ -74,6 +81,31 @@ fn open_file<R: Files>(rt: &R, path: &str) -> io::Result<R::File> {
         .append(true)
         .create(true)
         .open(rt, path)
+}
+
+/// How many bytes of a journal are looked at, to know one.
+const FRONT: usize = 15;
+
+/// Whether a line of a journal begins so, or the front of one that was cut off.
+fn is_front(bytes: &[u8]) -> bool {
+    begins(bytes, b"{\"By\":\"") || begins(bytes, b"{\"Controller\":\"")
+}
+
+/// Whether bytes begin with these, or these with them.
+fn begins(bytes: &[u8], word: &[u8]) -> bool {
+    bytes.starts_with(word) || word.starts_with(bytes)
+}
+
+/// Refuses a file of so many bytes that begins as no journal does.
+fn check_front<F: Read + Seek>(file: &mut F, length: u64) -> io::Result<()> {
+    let mut front = [0; FRONT];
+    let count = usize::min(FRONT, usize::try_from(length).unwrap_or(FRONT));
+    file.seek(SeekFrom::Start(0))?;
+    file.read_exact(&mut front[..count])?;
+    if is_front(&front[..count]) {
+        return Ok(());
+    }
+    Err(io::Error::other("it is no journal"))
 }
 
 /// Whether the last line of a file of so many bytes has no end.

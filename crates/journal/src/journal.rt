@@ -1,4 +1,4 @@
-ghost use Rattle.std.specs.Prelude.{◌≡◌, ℕ, List, Bool, true, MatchBool};
+ghost use Rattle.std.specs.Prelude.{◌≡◌, ℕ, List, Bool, false, true, MatchBool};
 ghost use Rattle.journal.specs.Journal.{IsAppended, IsLeft, IsMissed, Misses};
 
 /// What keeps lines (our own). All that is promised of it holds where it is honest; no contract can
@@ -27,15 +27,19 @@ pub trait Journal: Drop {
         // told that they are missed.
         // By `lines`, `honest`; `Journal::miss`: `missed`, `honest`; `MemoryJournal::new`,
         // `MemoryJournal::text`.
+        // Proved: Of any journal, one in a file too, what isn't kept is told as missed.
+        // By `told`; `Journal::miss`: `told`; `FileJournal::note`.
         // Not proved: that a journal in a file is honest: the crate's tests and `.ci/journal.py`
         // show it.
         ensures lines { is_honest self.old ≡ true → MatchBool result
             (IsAppended held is_missed lines.now self.old self.new)
             (IsMissed held is_missed lines.now self.old self.new) }
-        ensures honest { is_honest self.new ≡ is_honest self.old };
+        ensures honest { is_honest self.new ≡ is_honest self.old }
+        ensures told { result ≡ false → is_missed self.new ≡ true };
 
     /// A line can't be made for want of memory.
     fn miss(&mut self)
         ensures missed { is_honest self.old ≡ true → Misses held is_missed self.old self.new }
-        ensures honest { is_honest self.new ≡ is_honest self.old };
+        ensures honest { is_honest self.new ≡ is_honest self.old }
+        ensures told { is_missed self.new ≡ true };
 }

@@ -5,6 +5,7 @@ use Rattle.std.specs.Prelude.{map, codes}
 use Rattle.std.specs.Prelude.{Option, Some, None, Result, Ok, Err, if◌then◌else◌, option_map}
 use Rattle.ticket_items.specs.declared.refusal.Refusal.{Refusal}
 use Rattle.world_items.specs.declared.reply.Reply.{Reply}
+use Rattle.keepers.specs.declared.keep_fault.KeepFault.{KeepFault}
 use Rattle.keepers.specs.SystemFile.{count, file_bytes, is_honest, keep_in_file, load_fails, place}
 use Rattle.keepers.specs.SystemFile.{save_fails}
 use Rattle.journal.specs.Journal.{IsAppended, IsLeft, IsMissed, Misses}
@@ -158,6 +159,20 @@ OwnStepsKept {K = K} is_honest file_bytes keep to at all (own_stepped.Stepped gi
     (after : K) × TakesAll is_honest file_bytes to at all given.items saved keep after
 OwnStepsKept is_honest file_bytes keep to at all (own_stepped.LockedOut left last) = ⊥
 OwnStepsKept is_honest file_bytes keep to at all own_stepped.Failed = Unit {0}
+
+-- nothing was done: all this is given back, and the controller as it was saved last
+abbrev pub IsGivenBack : List Coming → Option AnyController → OwnStepResult → Type 0
+IsGivenBack all last (own_stepped.LockedOut left kept) = (left.items ≡ all) × (kept ≡ last)
+IsGivenBack all last result = ⊥
+
+-- the same of a keeper that was found so; where somebody else has it locked all is given back, and
+-- nothing was done where it can't be locked
+abbrev pub OwnStepsFound : {K : Type 0} → (K → Bool) → (K → List ℕ) → Result (Option K) KeepFault
+    → Addressee → ℕ → List Coming → Option AnyController → OwnStepResult → Type 0
+OwnStepsFound is_honest file_bytes (Ok (Some keep)) to at all last result =
+    OwnStepsKept is_honest file_bytes keep to at all result
+OwnStepsFound is_honest file_bytes (Ok None) to at all last result = IsGivenBack all last result
+OwnStepsFound is_honest file_bytes (Err e) to at all last result = result ≡ own_stepped.Failed
 
 -- the lines of its steps are in the journal; where nothing was given out that is left
 abbrev pub KeepsOwnJournal : {J : Type 0} → (J → List ℕ) → (J → Bool) → ℕ → List Coming → J → J

@@ -1,7 +1,6 @@
 use Rattle.std.proofs.Common.{subst, sym}
 use Rattle.streams.specs.Streams.{traffic}
 use Rattle.cell_commands.specs.Calls.{BeginsNone}
-use Rattle.cell_commands.proofs.Begun.{any_begins}
 use Rattle.cell_commands.proofs.Making.{err_told}
 use Rattle.cell_commands.proofs.outputs.new_output.Goals as goal
 
@@ -12,4 +11,4 @@ returns-in_err-noted-clause-refused g c =
     (λ e is. subst (BeginsNone input) (sym is) c.in_err-noted.ensures.refused)
 
 pub returns-clause-ok : goal.returns-clause-ok
-returns-clause-ok g c = any_begins _ _ _ _ _ _ _ c.in_ok-noted.ensures.ok
+returns-clause-ok g c = (c.in_ok-noted.keep.cell, c.in_ok-noted.ensures.ok)

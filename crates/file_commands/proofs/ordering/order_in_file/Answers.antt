@@ -17,13 +17,14 @@ returns-clause-journal g c =
     let input = traffic g.I.Read.remaining c.args.reader.now c.read_input.new.reader in
     IfOk-weaker c.order_locked.result _ _
     (λ given all honest.
-    let one = all honest in
-    record {
-      bytes = c.as_slice.result.now;
-      is_input = subst (IsInput input) (sym c.as_slice.ensures.value) c.in_ok-input.ensures.ok;
-      after = one.0;
-      gives = one.1;
-      by = who c.text_of.result;
-      lines = one.2;
-    })
+    let one = all honest in (
+      who c.text_of.result,
+      record {
+        bytes = c.as_slice.result.now;
+        is_input = subst (IsInput input) (sym c.as_slice.ensures.value) c.in_ok-input.ensures.ok;
+        after = one.0;
+        gives = one.1;
+        lines = one.2;
+      },
+    ))
     c.order_locked.ensures.journal
