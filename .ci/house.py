@@ -241,6 +241,25 @@ def what_cannot_be_served_is_not_begun():
     wants(os.listdir("jobs"), ["peers.json"])
 
 
+def a_link_to_a_peers_file_is_one():
+    """What lies as `peers.json` is never passed over: a link is followed, and else it is 59."""
+    os.mkdir("shop")
+    begins_worker("shop/press", "press", "mis")
+    message = cover_from("mis")
+    with open("table.json", "w", encoding="utf-8") as table:
+        table.write('{"office":"http://127.0.0.1:9/jmf"}')
+    os.symlink("../table.json", "shop/peers.json")
+    wants(run("new", "shop/other", given=json.dumps(master_opening("mis")))[0], 3)
+    with Served("shop") as shop:
+        wants(asked(shop, request(message)), 403)
+    os.remove("table.json")
+    status, _, told = run("serve", "shop", "--listen", "127.0.0.1:0")
+    wants((status, told[:22]), (4, "Refused 59 LoadFailed:"))
+    os.remove("shop/peers.json")
+    os.mkdir("shop/peers.json")
+    wants(run("serve", "shop", "--listen", "127.0.0.1:0")[0], 4)
+
+
 # ---- who may send
 
 
@@ -723,6 +742,7 @@ TESTS = [
     new_begins_what_the_file_is_called,
     a_second_job_is_not_mistaken_for_the_first,
     what_cannot_be_served_is_not_begun,
+    a_link_to_a_peers_file_is_one,
     a_sender_is_who_it_says,
     a_sender_is_known,
     a_peers_file_is_read_again,

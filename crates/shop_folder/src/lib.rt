@@ -18,6 +18,6 @@ pub use lies::Lies;
 pub use names::is_file_name;
 pub use naming::name_of;
 pub use owner::Owner;
-pub use owners::{PEERS, owner_of};
+pub use owners::{PEERS, owner_of, peers_of};
 pub use place::Place;
 pub use routes::{file_for, in_folder};

@@ -1,9 +1,10 @@
 //! The controller that a file is for.
 
-use crate::lies::Lies;
 use crate::names::is_file_name;
 use crate::routes::in_folder;
 use std::alloc::{AllocError, Global};
+use std::fs;
+use std::io::ErrorKind;
 use std::rt::Files;
 use stored_state::Addressee;
 
@@ -27,10 +28,25 @@ fn servable(name: &str) -> &str {
     ""
 }
 
+/// The path of a folder's peers' file, if something has its name: a file, or a link to one. What
+/// else lies there is given too, so that whoever reads it tells that it is none, and nobody takes
+/// the folder for one without.
+pub fn peers_of<R: Files>(
+    rt: &R,
+    alloc: Global,
+    folder: &str,
+) -> Result<Option<String>, AllocError> {
+    let path = in_folder(alloc, folder, PEERS)?;
+    match fs::symlink_metadata(rt, path.as_str()) {
+        Err(error) if error.kind() == ErrorKind::NotFound => Ok(None),
+        _ => Ok(Some(path)),
+    }
+}
+
 /// Whether a folder has a peers' file, and so has controllers under their own names.
 fn is_served<R: Files>(rt: &R, alloc: Global, folder: &str) -> Result<bool, AllocError> {
-    let peers = in_folder(alloc, folder, PEERS)?;
-    Ok(Lies::at(rt, peers.as_str()) == Lies::File)
+    let peers = peers_of(rt, alloc, folder)?;
+    Ok(peers.is_some())
 }
 
 /// The controller that a file is for: in a folder with a peers' file the one of the file's name; in
