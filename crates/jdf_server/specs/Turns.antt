@@ -8,10 +8,11 @@ use Rattle.shop_folder.specs.Owner.{addressed_owner}
 use Rattle.shop_folder.specs.declared.owner.Owner.{Owner}
 use Rattle.etcd_place.specs.Place.{is_etcd}
 use Rattle.rounds.specs.Line.{HasAnswer}
+use Rattle.rounds.specs.Parted.{IsParted}
 use Rattle.rounds.specs.declared.answered.AnsweredClient.{AnsweredClient}
 use Rattle.rounds.specs.declared.errand.Errand.{Errand}
 use Rattle.server_clients.specs.Clients.{AreGivenBack, AreLetGo, AreMissed}
-use Rattle.server_clients.specs.Waiting.{IsParted, RefusesLate, is_gone}
+use Rattle.server_clients.specs.Waiting.{RefusesLate, is_gone}
 use Rattle.server_clients.specs.declared.entry.Entry.{Entry}
 use Rattle.server_steps.specs.Steps.{TellsAt}
 use Rattle.jdf_server.specs.Lines.{Stays}

@@ -7,9 +7,9 @@ use http_message::missing_bytes;
 use journal::FileJournal;
 use keepers::Locks;
 use mio::net::UnixStream;
-use rounds::{AnsweredOperator, Errand, WaitingClient};
+use rounds::{AnsweredOperator, Errand, WaitingClient, late_and_waiting};
 use server_post::Line;
-use server_steps::{OrdersResult, order_at, orders_by_time, refused_orders};
+use server_steps::{OrdersResult, order_at, refused_orders};
 use shop_folder::Owner;
 use std::alloc::{AllocError, Global};
 use std::io::Write;
@@ -104,7 +104,7 @@ impl<'a, R: Locks + Net + Clock, F: Write + Drop> Server<'a, R, F> {
         ensures rest { (self.new.clients.now ≡ self.old.clients.now)
             × (self.new.lines ≡ self.old.lines) }
     {
-        let (left, late) = orders_by_time(self.alloc, orders, self.clients.now)?;
+        let (left, late) = late_and_waiting(self.alloc, orders, self.clients.now)?;
         let told = refused_orders(self.alloc, late, Refused::LoadFailed, self.clients.now)?;
         self.give_operators_back(path, told)?;
         Ok(left)

@@ -1,7 +1,9 @@
 //! A listener beside the one of messages, and those who come to it. They are held apart from the
 //! clients that send messages, and have their turns behind those.
 
-ghost use Rattle.std.specs.Prelude.{◌≡◌, ◌<◌, length};
+ghost use Rattle.std.specs.Prelude.{◌≡◌, ◌<◌, ℕ, None, length, OnOk, OnErr};
+ghost use Rattle.slab.specs.Slab.{Updates, get};
+ghost use Rattle.listeners.specs.Guests.{is_late, unless};
 
 use crate::listener::GuestListener;
 use crate::wire::Wire;
@@ -206,7 +208,10 @@ impl<L: GuestListener> Guests<L> {
     }
 
     /// Lets go of one.
-    pub fn let_go(&mut self, key: usize) {
+    pub fn let_go(&mut self, key: usize)
+        ensures guests { Updates self.old.held self.new.held key None }
+        ensures rest { self.new ≡ record self.old { held = self.new.held } }
+    {
         let _ = self.held.try_remove(key);
     }
 
@@ -334,7 +339,15 @@ impl<L: GuestListener> Guests<L> {
     }
 
     /// Lets go of those whose time is up.
-    pub fn close_late(&mut self, alloc: Global, now: u64) -> Result<(), AllocError> {
+    pub fn close_late(&mut self, alloc: Global, now: u64) -> Result<(), AllocError>
+        // Proved: Of those who look at the page or give orders just those are let go whose time is
+        // up: nobody else, and nobody where memory runs out.
+        // By `left`, `rest`, `err`; `Guests::let_go`: `guests`, `rest`.
+        ensures left { OnOk result ((key : ℕ) → get self.new.held key
+            ≡ unless (is_late now) (get self.old.held key)) }
+        ensures rest { self.new ≡ record self.old { held = self.new.held } }
+        ensures err { OnErr result (self.new.held ≡ self.old.held) }
+    {
         let mut late = Vec::new(alloc);
         for (key, guest) in self.held.iter() {
             if let Some(client) = &guest.client

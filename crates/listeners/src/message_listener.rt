@@ -1,3 +1,5 @@
+ghost use Rattle.std.specs.Prelude.{◌≡◌};
+
 use crate::listener::Listener;
 use http_message::Methods;
 use mio::net::TcpListener;
@@ -18,7 +20,10 @@ impl Listener for MessageListener {
 
     ghost methods = { Post };
 
-    fn limits(&self) -> Limits {
+    fn limits(&self) -> Limits
+        // Proved: The limits of the connections that carry messages are those that were given.
+        ensures { result ≡ record self.now.limits { methods = Post } }
+    {
         let mut limits = self.limits;
         limits.methods = Methods::Post;
         limits

@@ -1,3 +1,6 @@
+ghost use Rattle.std.specs.Prelude.{◌≡◌};
+ghost use Rattle.listeners.specs.Limits.{guest_limits};
+
 use crate::listener::{GuestListener, Listener};
 use http_message::Methods;
 use mio::net::{UnixListener, UnixStream};
@@ -63,7 +66,9 @@ impl Listener for OrderListener {
 
     ghost methods = { PostOrGet };
 
-    fn limits(&self) -> Limits {
+    fn limits(&self) -> Limits
+        ensures { result ≡ guest_limits PostOrGet 4_194_304 }
+    {
         Limits {
             methods: Methods::PostOrGet,
             request: 5_000,

@@ -1,3 +1,6 @@
+ghost use Rattle.std.specs.Prelude.{◌≡◌};
+ghost use Rattle.listeners.specs.Limits.{guest_limits};
+
 use crate::listener::{GuestListener, Listener};
 use http_message::Methods;
 use mio::net::{TcpListener, TcpStream};
@@ -16,7 +19,12 @@ impl Listener for PageListener {
 
     ghost methods = { GetOrHead };
 
-    fn limits(&self) -> Limits {
+    fn limits(&self) -> Limits
+        // Proved: The connections of those who look at the page or give orders have limits that are
+        // always the same: one who sends nothing is closed within 5 seconds.
+        // By `OrderListener::limits`.
+        ensures { result ≡ guest_limits GetOrHead 0 }
+    {
         Limits {
             methods: Methods::GetOrHead,
             request: 5_000,

@@ -1,1 +1,2 @@
 mod GivenBack
+pub mod Held

@@ -1,6 +1,6 @@
 -- The clients of `serve` by their numbers, and what is put back under one.
-use Rattle.std.specs.Prelude.{◌≡◌, ◌≢◌, ℕ, List, [], ◌∷◌, Option, Some, None, Err, IfSome, String, string_bytes}
-use Rattle.std.specs.Option.{option_map}
+use Rattle.std.specs.Prelude.{◌≡◌, ◌≢◌, ℕ, ◌+◌, ◌-◌, ◌^◌, min, nat_le, Bool, false, List, [], ◌∷◌, Option, Some, None, Err, IfSome, String, string_bytes}
+use Rattle.std.specs.Option.{option_map, option_map_or}
 use Rattle.std.specs.declared.alloc.Global.{Global}
 use Rattle.mio.specs.declared.net.stream.TcpStream.{TcpStream}
 use Rattle.slab.specs.Slab.{Slab, Updates, get}
@@ -27,6 +27,15 @@ with_client c e = record e { client = Some c; held = kept_bytes c.peer }
 abbrev pub with_note : Option (String Global) → Served → Option Receipt → Entry → Entry
 with_note path told taken e =
     record e { note = Some (record { path = path; told = told; taken = taken }) }
+
+-- how many are kept of all, where this many are kept of the client in a place from now on
+abbrev pub held_with : ℕ → Option Entry → ℕ → ℕ
+held_with bytes None held = held
+held_with bytes (Some e) held = min (held - e.held + bytes) (2 ^ 64 - 1)
+
+-- the deadline of a client has come; one that waits for its response has none
+abbrev pub is_overdue : ℕ → Entry → Bool
+is_overdue now e = option_map_or (λ c. nat_le c.peer.deadline now) e.client false
 
 -- at this number an entry is changed so, and no other is
 pub record Changes (change : Entry → Entry) (key : ℕ) (old new : Slab Entry) : Type 0 where

@@ -1,9 +1,10 @@
 -- Those of a line who wait no longer, and those who wait on.
-use Rattle.std.specs.Prelude.{◌≡◌, ℕ, Bool, true, not, nat_le, List, Option, Some, None, filter}
+use Rattle.std.specs.Prelude.{ℕ, Bool, true, List, Option, Some, None}
 use Rattle.mio.specs.declared.net.stream.TcpStream.{TcpStream}
 use Rattle.slab.specs.Slab.{Slab, get}
 use Rattle.streams.specs.declared.refused.Refused.TheVariants.{LoadFailed}
 use Rattle.rounds.specs.Line.{AreRefused, waiting_of}
+use Rattle.rounds.specs.Parted.{IsParted, is_late}
 use Rattle.rounds.specs.declared.answered.AnsweredClient.{AnsweredClient}
 use Rattle.rounds.specs.declared.errand.Errand.{Errand}
 use Rattle.server_clients.specs.Clients.{AreGivenBack}
@@ -17,16 +18,6 @@ is_broken None = true
 -- that of the one with an errand is
 abbrev pub is_gone : Slab Entry → Errand TcpStream → Bool
 is_gone clients e = is_broken (get clients e.waiting.key)
-
--- the one with an errand waited as long as one may
-abbrev pub is_late : ℕ → Errand TcpStream → Bool
-is_late now e = nat_le e.waiting.asked.peer.deadline now
-
--- these are in turn those of the list of which this isn't so, and those of which it is
-pub record IsParted (test : Errand TcpStream → Bool) (all rest those : List (Errand TcpStream))
-    : Type 0 where
-  pub not_so : rest ≡ filter (λ e. not (test e)) all
-  pub so : those ≡ filter test all
 
 -- those who waited as long as they may are refused and put back, and these are left
 pub record RefusesLate (path : List ℕ) (now : ℕ) (errands left : List (Errand TcpStream))

@@ -1,9 +1,13 @@
 //! The clients of a round.
 
-ghost use Rattle.std.specs.Prelude.{◌≡◌, ◌<◌, None, Some, length, string_bytes, true, OnOk};
+ghost use Rattle.std.specs.Prelude.{◌≡◌, ◌<◌, ℕ, None, Some, length, string_bytes, true};
+ghost use Rattle.std.specs.Prelude.{OnErr, OnOk};
 ghost use Rattle.std.specs.Option.{option_map};
-ghost use Rattle.slab.specs.Slab.{Updates};
-ghost use Rattle.server_clients.specs.Clients.{Changes, IsGivenBack, IsRefused, with_client};
+ghost use Rattle.slab.specs.Slab.{Updates, get};
+ghost use Rattle.listeners.specs.Guests.{unless};
+ghost use Rattle.peers.specs.Peer.{kept_bytes};
+ghost use Rattle.server_clients.specs.Clients.{Changes, IsGivenBack, IsRefused, held_with};
+ghost use Rattle.server_clients.specs.Clients.{is_overdue, with_client};
 
 use crate::entry::Entry;
 use crate::note::Note;
@@ -65,7 +69,8 @@ pub struct Clients<'a, R, F> {
 
 /// Gives an entry its client. Answers how many bytes were kept of it before.
 fn seat(entry: &mut Entry, client: Client<TcpStream>) -> usize
-    ensures { entry.new ≡ with_client client entry.old }
+    ensures seated { entry.new ≡ with_client client entry.old }
+    ensures before { result ≡ entry.old.held }
 {
     let before = entry.held;
     entry.held = client.held_bytes();
@@ -75,7 +80,8 @@ fn seat(entry: &mut Entry, client: Client<TcpStream>) -> usize
 
 /// Puts a client in its place, if that is there. Answers how many bytes were kept of it before.
 fn put_in(clients: &mut Slab<Entry>, key: usize, client: Client<TcpStream>) -> Option<usize>
-    ensures { Changes (with_client client) key clients.old clients.new }
+    ensures seated { Changes (with_client client) key clients.old clients.new }
+    ensures before { result ≡ option_map (λ e. e.held) (get clients.old key) }
 {
     if let Some(entry) = clients.get_mut(key) {
         return Some(seat(entry, client));
@@ -124,6 +130,7 @@ impl<'a, R: Clock, F: Write + Drop> Clients<'a, R, F> {
     fn count_held(&mut self, key: usize, held: usize)
         ensures clients { Changes (λ e. record e { held = held }) key self.old.all
             self.new.all }
+        ensures held { self.new.held ≡ held_with held (get self.old.all key) self.old.held }
         ensures moment { self.new.now ≡ self.old.now }
     {
         if let Some(entry) = self.all.get_mut(key) {
@@ -172,13 +179,19 @@ impl<'a, R: Clock, F: Write + Drop> Clients<'a, R, F> {
     }
 
     /// Puts a client back in its place.
+    #[tactic(auto, using(crate::proofs::Held::held_some, crate::proofs::Held::held_none))]
     pub fn put_back(&mut self, key: usize, client: Client<TcpStream>)
         // Proved: A client who is put back, whose request is refused, or whose response was
         // written, is under its own number, with its connection or its response; one who is let go
         // is under none. No other client changes.
         // By `clients`, `moment`; `Clients::refuse`, `Clients::linger`, `Clients::let_go`:
         // `clients`, `moment`.
+        // Proved: How many bytes are kept of all is what was, without those that were kept of the
+        // client, and with those that are kept of one who is put back: of one who is let go none.
+        // By `held`; `Clients::let_go`: `held`.
         ensures clients { Changes (with_client client) key self.old.all self.new.all }
+        ensures held { self.new.held
+            ≡ held_with (kept_bytes client.peer) (get self.old.all key) self.old.held }
         ensures moment { self.new.now ≡ self.old.now }
     {
         let held = client.held_bytes();
@@ -259,6 +272,7 @@ impl<'a, R: Clock, F: Write + Drop> Clients<'a, R, F> {
     /// Another client's large request may be read first.
     fn forget_preferred(&mut self, key: usize)
         ensures clients { self.new.all ≡ self.old.all }
+        ensures held { self.new.held ≡ self.old.held }
         ensures moment { self.new.now ≡ self.old.now }
     {
         if self.preferred == Some(key) {
@@ -269,6 +283,7 @@ impl<'a, R: Clock, F: Write + Drop> Clients<'a, R, F> {
     /// Lets go of a client that is at its end.
     pub fn let_go(&mut self, key: usize)
         ensures clients { Updates self.old.all self.new.all key None }
+        ensures held { self.new.held ≡ held_with 0 (get self.old.all key) self.old.held }
         ensures moment { self.new.now ≡ self.old.now }
     {
         self.tell(key, false);
@@ -320,7 +335,15 @@ impl<'a, R: Clock, F: Write + Drop> Clients<'a, R, F> {
     }
 
     /// Closes those whose time is up.
-    pub fn close_late(&mut self) -> Result<(), AllocError> {
+    pub fn close_late(&mut self) -> Result<(), AllocError>
+        // Proved: Of the clients just those are let go whose time is up, and nobody where memory
+        // runs out.
+        // By `left`, `err`, `moment`.
+        ensures left { OnOk result ((key : ℕ) → get self.new.all key
+            ≡ unless (is_overdue self.old.now) (get self.old.all key)) }
+        ensures err { OnErr result (self.new.all ≡ self.old.all) }
+        ensures moment { self.new.now ≡ self.old.now }
+    {
         let mut late = Vec::new(self.alloc);
         for (key, entry) in self.all.iter() {
             if let Some(client) = &entry.client

@@ -1,11 +1,11 @@
 //! What those who wait in lines are told.
 
 ghost use Rattle.std.specs.Prelude.{◌≡◌, None, Some, IfOk, OnOk};
+ghost use Rattle.rounds.specs.Parted.{IsParted};
 ghost use Rattle.slab.specs.Slab.{Updates, get};
 ghost use Rattle.server_clients.specs.Clients.{AreGivenBack, AreLetGo, AreMissed};
 ghost use Rattle.server_clients.specs.Clients.{IsMissed, TellsMissing};
-ghost use Rattle.server_clients.specs.Waiting.{IsParted, RefusesLate, is_broken};
-ghost use Rattle.server_clients.specs.Waiting.{is_gone as is_gone_in, is_late};
+ghost use Rattle.server_clients.specs.Waiting.{RefusesLate, is_broken, is_gone as is_gone_in};
 
 use crate::clients::Clients;
 use crate::entry::Entry;
@@ -14,36 +14,14 @@ use crate::telling::GONE;
 use http_edge::Served;
 use http_message::missing_bytes;
 use mio::net::TcpStream;
-use rounds::{AnsweredClient, Errand, Room, WaitingClient, refuse_errands};
+use rounds::{
+    AnsweredClient, Errand, Parted, Room, WaitingClient, late_and_waiting, refuse_errands,
+};
 use slab::Slab;
 use std::alloc::{AllocError, Global};
 use std::io::Write;
 use std::time::Clock;
 use streams::Refused;
-
-/// Some of a line, and the others.
-type Parted = (Vec<Errand<TcpStream>>, Vec<Errand<TcpStream>>);
-
-/// Those of a line who may wait on, and those who waited as long as they may.
-fn late_and_waiting(
-    alloc: Global,
-    errands: Vec<Errand<TcpStream>>,
-    now: u64,
-) -> Result<Parted, AllocError>
-    ensures { IfOk result (λ parted. IsParted (is_late now) errands.items parted.0.items
-        parted.1.items) }
-{
-    let mut left = Vec::with_capacity(alloc, errands.len())?;
-    let mut late = Vec::with_capacity(alloc, errands.len())?;
-    for one in errands {
-        if one.waiting.asked.deadline() <= now {
-            late.push(one)?;
-        } else {
-            left.push(one)?;
-        }
-    }
-    Ok((left, late))
-}
 
 /// Whether a client's connection is broken.
 fn is_gone(clients: &Slab<Entry>, key: usize) -> bool
@@ -60,7 +38,7 @@ pub fn gone_and_there(
     alloc: Global,
     errands: Vec<Errand<TcpStream>>,
     clients: &Slab<Entry>,
-) -> Result<Parted, AllocError>
+) -> Result<Parted<TcpStream>, AllocError>
     // Proved: Those of a line whose connections are broken are told from the others, both in their
     // order.
     ensures { IfOk result (λ parted. IsParted (is_gone_in clients.now) errands.items parted.0.items

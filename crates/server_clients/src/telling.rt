@@ -1,6 +1,8 @@
 //! The lines of the log.
 
 ghost use Rattle.std.specs.Prelude.{◌≡◌, true};
+ghost use Rattle.std.specs.Option.{option_map};
+ghost use Rattle.slab.specs.Slab.{get};
 ghost use Rattle.server_clients.specs.Clients.{Changes};
 
 use crate::clients::Clients;
@@ -133,6 +135,9 @@ impl<'a, R: Clock, F: Write + Drop> Clients<'a, R, F> {
     pub(crate) fn tell(&mut self, key: usize, is_written: bool)
         ensures clients { Changes (λ e. record e { is_told = true }) key self.old.all
             self.new.all }
+        ensures kept { option_map (λ e. e.held) (get self.new.all key)
+            ≡ option_map (λ e. e.held) (get self.old.all key) }
+        ensures held { self.new.held ≡ self.old.held }
         ensures moment { self.new.now ≡ self.old.now }
     {
         let at = seconds(self.rt);

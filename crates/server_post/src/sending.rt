@@ -1,6 +1,9 @@
 //! What of the controllers' parts is out, where it goes, and what is to be done so that it goes.
 
-ghost use Rattle.std.specs.Prelude.{◌<◌, ◌≤◌, length, IfOk, IfSome};
+ghost use Rattle.std.specs.Prelude.{◌≡◌, ◌<◌, ◌≤◌, ℕ, [], None, false, length, IfOk, IfSome};
+ghost use Rattle.courier.specs.Table.{flies_at};
+ghost use Rattle.slab.specs.Slab.{get};
+ghost use Rattle.server_post.specs.Orders.{SendsFlight, resend_text};
 
 use crate::own::{Own, Parcel, Task};
 use crate::post::Post;
@@ -11,7 +14,9 @@ use stored_state::AnyController;
 use ticket_items::{Id, SpawnId};
 
 /// The order to send the part of a spawn once more.
-fn resend_text(alloc: Global, spawn: SpawnId) -> Result<Vec<u8>, AllocError> {
+fn resend_text(alloc: Global, spawn: SpawnId) -> Result<Vec<u8>, AllocError>
+    ensures { IfOk result (λ text. text.items ≡ resend_text spawn) }
+{
     let number = spawn.number();
     let text = format!(in alloc; "{{\"Order\":\"Resend\",\"SpawnID\":\"S{number}\"}}")?;
     Ok(text.into_bytes())
@@ -73,7 +78,10 @@ impl Post {
     }
 
     /// What is in flight failed.
-    fn fail_all(&mut self, now: u64) {
+    fn fail_all(&mut self, now: u64)
+        ensures idle { (line : ℕ) → flies_at self.new.deliveries.destinations line ≡ false }
+        ensures rest { self.new ≡ record self.old { deliveries = self.new.deliveries } }
+    {
         for line in 0..self.deliveries.destinations() {
             if self.deliveries.flies(line) {
                 self.deliveries.fail_flight(line, now);
@@ -82,7 +90,14 @@ impl Post {
     }
 
     /// Goes on behind a round in which memory ran out: no call goes on.
-    pub fn recover(&mut self, now: u64) {
+    pub fn recover(&mut self, now: u64)
+        // Proved: Behind a round in which memory ran out nothing is in flight and no call goes on,
+        // so that whatever is out is sent again.
+        // By `idle`, `calls`, `ready`.
+        ensures idle { (line : ℕ) → flies_at self.new.deliveries.destinations line ≡ false }
+        ensures calls { (key : ℕ) → get self.new.calls key ≡ None }
+        ensures ready { self.new.ready.items ≡ [] }
+    {
         self.calls.clear();
         self.ready.clear();
         self.fail_all(now);
@@ -108,7 +123,11 @@ impl Post {
 }
 
 /// What is to be done so that what is in flight goes out.
-pub fn send_own(alloc: Global, flight: &Flight, until: u64) -> Result<Own, AllocError> {
+pub fn send_own(alloc: Global, flight: &Flight, until: u64) -> Result<Own, AllocError>
+    // Proved: So that what is in flight goes out, its controller is told to send the part of that
+    // spawn once more, until this moment.
+    ensures { IfOk result (SendsFlight flight.now until) }
+{
     Ok(Own {
         parcel: Parcel {
             spawn: flight.spawn,

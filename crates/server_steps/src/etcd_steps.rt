@@ -5,6 +5,7 @@ ghost use Rattle.etcd_place.specs.Place.{etcd_place_in, is_etcd as is_etcd_text}
 ghost use Rattle.journal.specs.Journal.{IsLeft};
 ghost use Rattle.server_steps.specs.InEtcd.{IsKeepAt};
 ghost use Rattle.server_steps.specs.Journaled.{KeepsJournalAt};
+ghost use Rattle.server_steps.specs.Looks.{IsSeenAt};
 ghost use Rattle.server_steps.specs.Steps.{IsSteppedAt};
 ghost use Rattle.streams.specs.declared.refused.Refused.TheVariants.{LoadFailed};
 
@@ -197,7 +198,13 @@ pub fn look_at_path<R: Locks + Net + Clock>(
     to: Addressee<'_>,
     last: &Option<SavedState>,
     engine: &mut Engine,
-) -> Look {
+) -> Look
+    // Proved: A controller that is seen at a path is one that is addressed; that it is as it was
+    // saved last is told only of one that was; only of a file it is told that somebody else has it
+    // locked, and only of a place in etcd that the engine doesn't tell.
+    // By `look_at`.
+    ensures { IsSeenAt (is_etcd_text path.now) to.entry last.now result }
+{
     if !is_etcd(path) {
         return look_in_file(rt, alloc, path, to, last);
     }

@@ -19,7 +19,7 @@ pub use engine::Engine;
 pub use etcd_folder::{begin_at, controllers_in, is_missing_at, lists};
 pub use etcd_steps::{answers, check_path, look_at_path, step_at, step_own_at};
 pub use mark::Mark;
-pub use order_steps::{OrdersResult, order_at, orders_by_time, refused_orders};
+pub use order_steps::{OrdersResult, order_at, refused_orders};
 pub use route::{Route, named_route, route_of};
 pub use stepping::{Look, OwnStepResult, StepsResult};
 pub use watched::{ControllerView, ControllerViews, MarkedFile, Seat};

@@ -162,22 +162,3 @@ pub fn order_at<R: Locks + Net + Clock, J: Journal>(
     }
     order_in_file(rt, alloc, path, last, to, orders, now, journal)
 }
-
-/// Those of these orders that may wait on at this moment, and those that waited as long as they
-/// may.
-pub fn orders_by_time(
-    alloc: Global,
-    orders: Vec<Errand<UnixStream>>,
-    now: u64,
-) -> Result<(Vec<Errand<UnixStream>>, Vec<Errand<UnixStream>>), AllocError> {
-    let mut left = Vec::with_capacity(alloc, orders.len())?;
-    let mut late = Vec::with_capacity(alloc, orders.len())?;
-    for order in orders {
-        if order.waiting.asked.deadline() <= now {
-            late.push(order)?;
-        } else {
-            left.push(order)?;
-        }
-    }
-    Ok((left, late))
-}

@@ -1,11 +1,13 @@
 //! The steps of those who wait for one controller, under the lock of its file.
 
-ghost use Rattle.std.specs.Prelude.{◌≡◌, length, true, IfOk, MatchResult};
+ghost use Rattle.std.specs.Prelude.{◌≡◌, length, false, true, IfOk, MatchResult};
 ghost use Rattle.journal.specs.Journal.{IsLeft};
 ghost use Rattle.rounds.specs.Line.{HasRoom};
+ghost use Rattle.stored_state.specs.Held.{HoldsSame};
+ghost use Rattle.server_steps.specs.Looks.{HoldsSaved, IsSeen, IsSeenAt};
 ghost use Rattle.server_steps.specs.Steps.{IsStepped, StepsKept};
 ghost use Rattle.server_steps.specs.Journaled.{KeepsJournal, KeepsJournalIn, KeepsOwnJournal};
-ghost use Rattle.server_steps.specs.Journaled.{OwnStepsKept};
+ghost use Rattle.server_steps.specs.Journaled.{OwnStepsFound, OwnStepsKept};
 
 use crate::journaling::{
     calls_of_comings, calls_of_errands, journal_clients_steps, journal_own_steps,
@@ -204,7 +206,11 @@ fn step_own_found<K: RoundKeep, J: Journal>(
     all: Vec<Coming>,
     at: u64,
     journal: &mut J,
-) -> OwnStepResult {
+) -> OwnStepResult
+    ensures steps { OwnStepsFound K.is_honest K.held found to.entry at all.items last result }
+    ensures journaled { J.is_honest journal.old ≡ true
+        → KeepsOwnJournal J.held J.is_missed at all.items journal.old journal.new result }
+{
     match found {
         Ok(Some(keep)) => step_own_kept(alloc, keep, last, to, all, at, journal),
         Ok(None) => OwnStepResult::LockedOut(all, last),
@@ -246,7 +252,11 @@ pub enum Look {
 }
 
 /// Whether a keeper holds the text that was saved last.
-fn holds_saved<K: Keep>(keep: &mut K, last: &Option<SavedState>) -> bool {
+fn holds_saved<K: Keep>(keep: &mut K, last: &Option<SavedState>) -> bool
+    ensures saved { result ≡ true → HoldsSaved K.is_honest K.held keep.old last.now }
+    ensures held { HoldsSame K.is_honest K.held keep.old keep.new }
+    ensures honest { K.is_honest keep.new ≡ K.is_honest keep.old }
+{
     match (last, keep.load()) {
         (Some(saved), Ok(bytes)) => saved.text() == bytes.as_slice(),
         _ => false,
@@ -259,7 +269,9 @@ pub(crate) fn look_at<K: Keep>(
     found: Result<Option<K>, KeepFault>,
     to: Addressee<'_>,
     last: &Option<SavedState>,
-) -> Look {
+) -> Look
+    ensures { IsSeen K.is_honest K.held found to.entry last.now result }
+{
     match found {
         Ok(Some(mut keep)) => {
             if last.is_some() && holds_saved(&mut keep, last) {
@@ -282,7 +294,9 @@ pub(crate) fn look_in_file<R: Locks>(
     path: &str,
     to: Addressee<'_>,
     last: &Option<SavedState>,
-) -> Look {
+) -> Look
+    ensures { IsSeenAt false to.entry last.now result }
+{
     look_at(alloc, FileKeep::try_lock(rt, alloc, path), to, last)
 }
 

@@ -1,4 +1,5 @@
-use Rattle.server_clients.specs.Waiting.{IsParted, is_gone}
+use Rattle.rounds.specs.Parted.{IsParted}
+use Rattle.server_clients.specs.Waiting.{is_gone}
 use Rattle.server_clients.proofs.giving_back.gone_and_there.Given as goal
 
 -- those so far
