@@ -1,5 +1,8 @@
 -- How `serve` ends.
-use Rattle.std.specs.Prelude.{◌≡◌, ◌⊎◌, ◌++◌, ℕ, List, None, true, codes}
+use Rattle.std.specs.Prelude.{◌≡◌, ◌⊎◌, ◌<◌, ◌++◌, ℕ, List, Option, Some, None, true, codes, get_or, length}
+use Rattle.std.specs.Prelude.{option_map, string_bytes}
+use Rattle.std.specs.Borrow.{Bor}
+use Rattle.server_post.specs.declared.post.Post.{Post}
 use Rattle.etcd_place.specs.Folder.{etcd_folder_in}
 use Rattle.etcd_place.specs.Place.{etcd_place_in, is_etcd}
 use Rattle.shop_folder.specs.declared.place.Place.{Place}
@@ -21,6 +24,25 @@ IsOfText text (File one) =
 abbrev pub IsNowhere : Place → Type 0
 IsNowhere (File path) = (is_etcd path.now ≡ true) × (etcd_place_in path.now ≡ None)
 IsNowhere (Folder path) = (is_etcd path.now ≡ true) × (etcd_folder_in path.now ≡ None)
+
+-- ---- where it listens
+
+-- a byte stands in a text
+abbrev pub HasByte : ℕ → List ℕ → Type 0
+HasByte b text = (k : ℕ) × (k < length text) × (get_or text k 0 ≡ b)
+
+-- the address that a text stands for: itself where it has a `:`; else it is a port, at loopback
+abbrev pub IsAddressOf : List ℕ → List ℕ → Type 0
+IsAddressOf text address =
+    (HasByte 58 text × (address ≡ text))
+    ⊎ ((HasByte 58 text → ⊥) × (address ≡ codes "127.0.0.1:" ++ text))
+
+-- ---- what goes out by itself
+
+-- it is by the peers' file that is named, where one is
+abbrev pub IsPostOf : Option (Bor (List ℕ)) → Option Post → Type 0
+IsPostOf None post = Unit {0}
+IsPostOf (Some named) post = option_map (λ p. string_bytes p.file) post ≡ Some named.now
 
 -- ---- how it ends
 

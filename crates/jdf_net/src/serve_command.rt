@@ -1,11 +1,12 @@
 //! The command `serve`: the controller that is kept in a file, or those of a folder, over HTTP.
 
-ghost use Rattle.std.specs.Prelude.{◌≡◌, ◌⊎◌, Err, IfErr, false, true};
+ghost use Rattle.std.specs.Prelude.{◌≡◌, Some, Err, IfErr, IfOk, IfSome, OnOk, false, true};
+ghost use Rattle.std.specs.Prelude.{option_map, string_bytes};
 ghost use Rattle.etcd_place.specs.Place.{is_etcd as is_etcd_text};
-ghost use Rattle.jdf_net.specs.ServeCommand.{EndsServe, IsNowhere, IsOfText, IsUnserved};
+ghost use Rattle.jdf_net.specs.ServeCommand.{EndsServe, IsAddressOf, IsNowhere, IsOfText};
+ghost use Rattle.jdf_net.specs.ServeCommand.{IsPostOf, IsUnserved};
 ghost use Rattle.shop_folder.specs.Place.{path_of};
-ghost use Rattle.streams.specs.declared.refused.Refused.TheVariants.{LoadFailed, NoConnection};
-ghost use Rattle.streams.specs.declared.refused.Refused.TheVariants.{WriteFailed};
+ghost use Rattle.streams.specs.declared.refused.Refused.TheVariants.{LoadFailed};
 
 use document_commands::{CausedFault, give_up_caused};
 use etcd_place::{EtcdFolder, EtcdPlace, is_etcd};
@@ -15,7 +16,7 @@ use mio::net::TcpListener;
 use peers_file::NO_PEERS;
 use server_post::Post;
 use server_steps::check_path;
-use shop_folder::{Lies, PEERS, Place, in_folder};
+use shop_folder::{Place, peers_of};
 use std::alloc::{Alloc, AllocError, Global};
 use std::io::{self, ErrorKind, Write};
 use std::net::{Net, SocketAddr, ToSocketAddrs};
@@ -35,31 +36,50 @@ fn listen<R: Net>(rt: &R, address: &str) -> io::Result<TcpListener> {
     Err(last)
 }
 
-/// Writes the address that is listened on.
-fn announce<W: Write>(address: io::Result<SocketAddr>, writer: &mut W) -> Result<(), Refused>
-    ensures { IfErr result (λ e. (e ≡ NoConnection) ⊎ (e ≡ WriteFailed)) }
+/// Writes a line at once, so that whoever waits for its front has all of it.
+fn write_line<W: Write>(line: &str, writer: &mut W) -> Result<(), CausedFault>
+    ensures { IfErr result (λ caused. IsUnserved caused.fault) }
 {
-    let Ok(address) = address else {
-        return Err(Refused::NoConnection);
-    };
-    if writeln!(writer, "Listening on {address}").is_err() || writer.flush().is_err() {
-        return Err(Refused::WriteFailed);
+    if writer.write_all(line.as_bytes()).is_err() || writer.flush().is_err() {
+        return Err(CausedFault::without_cause(Fault::Device(Refused::WriteFailed)));
     }
     Ok(())
 }
 
-/// Writes where the page is.
-fn announce_page<W: Write>(listener: &TcpListener, writer: &mut W) -> Result<(), Refused>
-    ensures { IfErr result (λ e. (e ≡ NoConnection) ⊎ (e ≡ WriteFailed)) }
+/// The address of a listener.
+fn told_address(address: io::Result<SocketAddr>) -> Result<SocketAddr, CausedFault>
+    ensures { IfErr result (λ caused. IsUnserved caused.fault) }
 {
-    let address = match listener.local_addr() {
-        Ok(address) => address,
-        Err(_) => return Err(Refused::NoConnection),
-    };
-    if writeln!(writer, "Page at http://{address}/").is_err() || writer.flush().is_err() {
-        return Err(Refused::WriteFailed);
+    match address {
+        Ok(address) => Ok(address),
+        Err(_) => Err(CausedFault::without_cause(Fault::Device(Refused::NoConnection))),
     }
-    Ok(())
+}
+
+/// Writes the address that is listened on.
+fn announce<W: Write>(
+    alloc: Global,
+    address: io::Result<SocketAddr>,
+    writer: &mut W,
+) -> Result<(), CausedFault>
+    ensures { IfErr result (λ caused. IsUnserved caused.fault) }
+{
+    let address = told_address(address)?;
+    let line = format!(in alloc; "Listening on {address}\n")?;
+    write_line(line.as_str(), writer)
+}
+
+/// Writes where the page is.
+fn announce_page<W: Write>(
+    alloc: Global,
+    listener: &TcpListener,
+    writer: &mut W,
+) -> Result<(), CausedFault>
+    ensures { IfErr result (λ caused. IsUnserved caused.fault) }
+{
+    let address = told_address(listener.local_addr())?;
+    let line = format!(in alloc; "Page at http://{address}/\n")?;
+    write_line(line.as_str(), writer)
 }
 
 /// Why it can't listen on an address.
@@ -147,29 +167,36 @@ fn check<R: Locks + Net + Clock>(rt: &R, alloc: Global, place: &Place<'_>) -> Re
     }
 }
 
-/// The path of the peers' file: the one that is named, or else `peers.json` in a folder that is
-/// served, where there is one.
-fn peers_path<R: Files>(
+/// The path of what lies as `peers.json` in a folder that is served.
+fn folder_peers<R: Files>(
     rt: &R,
     alloc: Global,
-    service: &Service<'_>,
     place: &Place<'_>,
 ) -> Result<Option<String>, AllocError> {
-    if let Some(path) = service.peers {
-        return Ok(Some(String::from_str(alloc, path)?));
-    }
     match place {
         Place::File(_) => Ok(None),
         Place::Folder(folder) => {
             if is_etcd(folder) {
                 return Ok(None);
             }
-            let path = in_folder(alloc, folder, PEERS)?;
-            match Lies::at(rt, path.as_str()) {
-                Lies::File => Ok(Some(path)),
-                Lies::Folder | Lies::Nothing => Ok(None),
-            }
+            peers_of(rt, alloc, folder)
         }
+    }
+}
+
+/// The path of the peers' file: the one that is named, or else that of the folder.
+fn peers_path<R: Files>(
+    rt: &R,
+    alloc: Global,
+    service: &Service<'_>,
+    place: &Place<'_>,
+) -> Result<Option<String>, AllocError>
+    ensures { IfOk result (λ path. IfSome service.now.peers (λ named.
+        option_map string_bytes path ≡ Some named.now)) }
+{
+    match service.peers {
+        Some(path) => Ok(Some(String::from_str(alloc, path)?)),
+        None => folder_peers(rt, alloc, place),
     }
 }
 
@@ -181,7 +208,8 @@ fn post_of<R: Files>(
     service: &Service<'_>,
     place: &Place<'_>,
 ) -> Result<Option<Post>, CausedFault>
-    ensures { IfErr result (λ caused. IsUnserved caused.fault) }
+    ensures named { IfOk result (λ post. IsPostOf service.now.peers post) }
+    ensures refused { IfErr result (λ caused. IsUnserved caused.fault) }
 {
     let Some(file) = peers_path(rt, alloc, service, place)? else {
         return Ok(None);
@@ -197,7 +225,9 @@ fn post_of<R: Files>(
 }
 
 /// An address with its host: where it is a port alone, that of loopback.
-fn with_host(alloc: Global, address: &str) -> Result<String, AllocError> {
+fn with_host(alloc: Global, address: &str) -> Result<String, AllocError>
+    ensures { IfOk result (λ at. IsAddressOf address.now (string_bytes at)) }
+{
     if address.contains(':') {
         String::from_str(alloc, address)
     } else {
@@ -213,7 +243,8 @@ fn begin_page<R: Files + Net, F, W: Write>(
     address: &str,
     writer: &mut W,
 ) -> Result<(), CausedFault>
-    ensures { IfErr result (λ caused. IsUnserved caused.fault) }
+    ensures post { server.new.post ≡ server.old.post }
+    ensures refused { IfErr result (λ caused. IsUnserved caused.fault) }
 {
     let address = with_host(alloc, address)?;
     let address = address.as_str();
@@ -221,9 +252,7 @@ fn begin_page<R: Files + Net, F, W: Write>(
         Ok(listener) => listener,
         Err(error) => return Err(listen_fault(alloc, address, &error)),
     };
-    if let Err(refused) = announce_page(&listener, writer) {
-        return Err(CausedFault::without_cause(Fault::Device(refused)));
-    }
+    announce_page(alloc, &listener, writer)?;
     match server.open_page(listener) {
         Ok(()) => Ok(()),
         Err(error) => Err(listen_fault(alloc, address, &error)),
@@ -237,15 +266,14 @@ fn begin_orders<R: Files + Net, F, W: Write>(
     path: &str,
     writer: &mut W,
 ) -> Result<(), CausedFault>
-    ensures { IfErr result (λ caused. IsUnserved caused.fault) }
+    ensures post { server.new.post ≡ server.old.post }
+    ensures refused { IfErr result (λ caused. IsUnserved caused.fault) }
 {
     if let Err(error) = server.open_orders(path) {
         return Err(listen_fault(alloc, path, &error));
     }
-    if writeln!(writer, "Orders at {path}").is_err() || writer.flush().is_err() {
-        return Err(CausedFault::without_cause(Fault::Device(Refused::WriteFailed)));
-    }
-    Ok(())
+    let line = format!(in alloc; "Orders at {path}\n")?;
+    write_line(line.as_str(), writer)
 }
 
 /// Has a server send what is out by itself, if it is to, and writes the addresses that it listens
@@ -258,12 +286,11 @@ fn begin<R: Files + Net, F, W: Write>(
     place: &Place<'_>,
     writer: &mut W,
 ) -> Result<(), CausedFault>
-    ensures { IfErr result (λ caused. IsUnserved caused.fault) }
+    ensures named { OnOk result (IsPostOf service.now.peers server.new.post) }
+    ensures refused { IfErr result (λ caused. IsUnserved caused.fault) }
 {
     server.send_by(post_of(rt, alloc, service, place)?);
-    if let Err(refused) = announce(server.listens_at(), writer) {
-        return Err(CausedFault::without_cause(Fault::Device(refused)));
-    }
+    announce(alloc, server.listens_at(), writer)?;
     if let Some(address) = service.page {
         begin_page(rt, alloc, server, address, writer)?;
     }

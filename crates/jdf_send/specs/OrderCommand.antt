@@ -1,5 +1,5 @@
 -- How `order` with `--send` ends.
-use Rattle.std.specs.Prelude.{◌≡◌, ◌≢◌, ◌⊎◌, ◌≤◌, ℕ, Bool, false, List, [], Option, Some, None}
+use Rattle.std.specs.Prelude.{◌≡◌, ◌≢◌, ◌⊎◌, ◌≤◌, ℕ, Bool, false, true, List, [], Option, Some, None}
 use Rattle.std.specs.Prelude.{Result, Ok}
 use Rattle.std.specs.Borrow.{Bor}
 use Rattle.ticket_items.specs.declared.refusal.Refusal.{Refusal}
@@ -9,6 +9,8 @@ use Rattle.controller.specs.declared.message.Message.{Message}
 use Rattle.jmf_message.specs.Decoded.{IsDecodedAs}
 use Rattle.keepers.specs.InFile.{InFile}
 use Rattle.keepers.specs.OnDisk.{OnDisk}
+use Rattle.journal.specs.Journal.{IsJournaled, IsLeft}
+use Rattle.stored_state.specs.Addressee.{name_of}
 use Rattle.stored_state.specs.AnyStep.{IsHanded, IsNoOrder, IsOrdered}
 use Rattle.stored_state.specs.Held.{KeptState}
 use Rattle.stored_state.specs.declared.any_controller.AnyController.{AnyController}
@@ -26,6 +28,7 @@ use Rattle.keepers.specs.SystemFile.{file_bytes, is_honest, keep_in_file, place}
 use Rattle.document_commands.specs.Caused.{EndsWithCaused, GivesUpCaused}
 use Rattle.file_commands.specs.Answers.{IsOfAnswer}
 use Rattle.file_commands.specs.Commands.{GivesHeld, GivesNoting, GivesStepOf}
+use Rattle.file_commands.specs.Journaled.{IsMessageLine, JournalsNone, OrderJournaled}
 use Rattle.file_commands.specs.Notes.{GivesOutNoting, notes_of_order}
 use Rattle.file_commands.specs.Step.{is_refused, reply_line, step_lines}
 
@@ -131,3 +134,49 @@ pub record EndsSendOrder (file : Bor (List ℕ)) (at : ℕ) (url : List ℕ) (in
     (status : ℕ) : Type 0 where
   pub given : Orders file at url input output told status
   pub known : status ≤ 4
+
+-- ---- what stands in a journal
+
+-- the controller in the file has taken the answer, and the line of that step stands in a journal,
+-- unless the controller refused it
+pub record TakingJournaled {J : Type 0} (held_by : J → List ℕ) (is_missed : J → Bool)
+    (file : Bor (List ℕ)) (at : ℕ) (answer : List ℕ) (old new : J) : Type 0 where
+  pub reply : Result Reply Refusal
+  pub sent : Option (List ℕ)
+  pub after : KeptState AnyController (InFile OnDisk)
+  pub given : GivesHeld is_honest file_bytes place (IsHanded at) answer (keep_in_file file.now) after reply sent
+  pub lines :
+      IsJournaled held_by is_missed (IsMessageLine (name_of after.controller) at answer) reply old new
+
+-- the same of an answer, and nothing of none
+abbrev pub AnswerJournaled : {J : Type 0} → (J → List ℕ) → (J → Bool) → Bor (List ℕ) → ℕ → List ℕ
+    → J → J → Type 0
+AnswerJournaled held_by is_missed file at answer old new =
+    ((answer ≡ []) × IsLeft held_by is_missed old new)
+    ⊎ TakingJournaled held_by is_missed file at answer old new
+
+-- the same of some answer, or of none
+abbrev pub SomeJournaled : {J : Type 0} → (J → List ℕ) → (J → Bool) → Bor (List ℕ) → ℕ → J → J
+    → Type 0
+SomeJournaled held_by is_missed file at old new =
+    (answer : List ℕ) × AnswerJournaled held_by is_missed file at answer old new
+
+-- the line of the order's step, and behind it, where the journal is honest then, that of the answer's
+pub record OrderAndAnswerJournaled {J : Type 0} (is_honest : J → Bool) (held_by : J → List ℕ)
+    (is_missed : J → Bool) (file : Bor (List ℕ)) (at : ℕ) (input : Traffic)
+    (reply : Result Reply Refusal) (sent : Option (List ℕ)) (old new : J) : Type 0 where
+  pub between : J
+  pub order : OrderJournaled held_by is_missed at (keep_in_file file.now) input reply sent old between
+  pub answer : is_honest between ≡ true → SomeJournaled held_by is_missed file at between new
+
+-- the lines of the steps that are given out so; and where the order is given to none, or it isn't
+-- known where to send, nothing, unless memory ran out
+abbrev pub EndsJournaled : {J : Type 0} → (J → Bool) → (J → List ℕ) → (J → Bool) → Bor (List ℕ) → ℕ
+    → List ℕ → Traffic → Traffic → Traffic → ℕ → J → J → Type 0
+EndsJournaled is_honest held_by is_missed file at url input output told status old new =
+    ((reply : Result Reply Refusal) × (sent : Option (List ℕ)) × (notes : List ℕ)
+    × OrderAndAnswerJournaled is_honest held_by is_missed file at input reply sent old new
+    × GivesOrder file at reply sent notes output told status)
+    ⊎ (((fault : Fault) × JournalsNone held_by is_missed old new fault
+    × GivesUpCaused fault output told status)
+    ⊎ (IsLeft held_by is_missed old new × IsNowhere url input output told status))

@@ -1,6 +1,7 @@
 -- How `send` ends.
 use Rattle.std.specs.Prelude.{◌≡◌, ◌≢◌, ◌⊎◌, ◌++◌, ◌∷◌, ◌==◌, ℕ, Bool, List, [], false, true}
-use Rattle.std.specs.Prelude.{Option, Some, None, MatchResult, Result, Ok, Err, String, slice_index}
+use Rattle.std.specs.Prelude.{Option, Some, None, IfSome, MatchResult, Result, Ok, Err, String}
+use Rattle.std.specs.Prelude.{slice_index}
 use Rattle.std.specs.Prelude.{string_bytes}
 use Rattle.std.specs.declared.alloc.Global.{Global}
 use Rattle.ticket_items.specs.declared.refusal.Refusal.{Refusal}
@@ -9,13 +10,17 @@ use Rattle.controller.specs.declared.message.Message.{Message}
 use Rattle.jmf_message.specs.Decoded.{IsDecodedAs, IsRefusalOf}
 use Rattle.streams.specs.Ends.{GivesOut, GivesUp, Tells}
 use Rattle.streams.specs.Fault.{fault_status}
-use Rattle.streams.specs.Streams.{IsUntouched, Stream, Traffic}
+use Rattle.streams.specs.Counts.{Counts}
+use Rattle.streams.specs.Streams.{IsUntouched, Stream, Traffic, Writes, traffic}
 use Rattle.streams.specs.declared.refused.Refused.{Refused}
 use Rattle.streams.specs.declared.refused.Refused.TheVariants.{Core, LoadFailed}
 use Rattle.streams.specs.declared.fault.Fault.{Fault}
 use Rattle.streams.specs.declared.fault.Fault.TheVariants.{Device, Input}
 use Rattle.url.specs.Parts.{Parts}
-use Rattle.peers_file.specs.Destination.{destination_in}
+use Rattle.http_message.specs.Message.{Carries}
+use Rattle.http_message.specs.Texts.{request_to}
+use Rattle.http_message.specs.declared.kind.Kind.TheVariants.{Response}
+use Rattle.peers_file.specs.Destination.{authority_of, destination_in}
 use Rattle.peers_file.specs.Table.{IsUrlOf}
 use Rattle.peers_file.specs.PeersInFile.{IsNoTable}
 use Rattle.jdf_send.specs.declared.send_command.send_to.SendTo.{SendTo}
@@ -50,6 +55,14 @@ abbrev pub GoesTo : SendTo → List ℕ → Option Parts → Type 0
 GoesTo (Url url) message found = found ≡ Some url
 GoesTo (Peers rows) message found =
     (m : Message) × IsDecodedAs message (Ok m) × IsUrlOf m.receiver rows found
+
+-- a message was posted to a URL over a stream, whole, and the response that came then has this
+-- status and this body
+pub record IsPosted {S : Type 0} (remaining contents : S → Option (List ℕ)) (old new : Counts S)
+    (url : Parts) (message : List ℕ) (status : ℕ) (body : List ℕ) : Type 0 where
+  pub between : Counts S
+  pub sent : Writes (traffic contents old between) (request_to (authority_of url) url.path message)
+  pub came : IfSome (remaining between.inner) (λ all. Carries Response all status body)
 
 -- ---- what is written
 

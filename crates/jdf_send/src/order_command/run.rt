@@ -1,9 +1,10 @@
 //! The command, from a file and a URL to its exit status.
 
-ghost use Rattle.std.specs.Prelude.{◌≤◌, IfOk};
+ghost use Rattle.std.specs.Prelude.{◌≡◌, ◌≤◌, true, IfOk, OnOk};
 ghost use Rattle.std.specs.Option.{option_map};
-ghost use Rattle.jdf_send.specs.OrderCommand.{EndsSendOrder, GivesOn, GivesOrder, IsCome};
-ghost use Rattle.jdf_send.specs.OrderCommand.{IsWrittenOf, SendsOn};
+ghost use Rattle.jdf_send.specs.OrderCommand.{AnswerJournaled, EndsJournaled, EndsSendOrder};
+ghost use Rattle.jdf_send.specs.OrderCommand.{GivesOn, GivesOrder, IsCome, IsWrittenOf};
+ghost use Rattle.jdf_send.specs.OrderCommand.{SendsOn, SomeJournaled};
 ghost use Rattle.streams.specs.Streams.{traffic};
 
 use crate::order_command::send_order::SendOrder;
@@ -43,8 +44,13 @@ fn take_answer<R: Locks, J: Journal>(
     answer: &[u8],
     journal: &mut J,
 ) -> Result<Output, Fault>
-    ensures { IfOk result (λ output. IsWrittenOf order.now.file order.now.at answer.now
+    ensures ok { IfOk result (λ output. IsWrittenOf order.now.file order.now.at answer.now
         output.text.items output.refused) }
+    ensures journal { OnOk result (J.is_honest journal.old ≡ true →
+        AnswerJournaled J.held J.is_missed order.now.file order.now.at answer.now
+        journal.old journal.new) }
+    ensures behind { J.is_honest journal.old ≡ true → SomeJournaled J.held J.is_missed
+        order.now.file order.now.at journal.old journal.new }
 {
     if answer.is_empty() {
         return Ok(Output {
@@ -67,7 +73,9 @@ fn post_order<R: Locks + Net + Clock, J: Journal>(
     message: &[u8],
     journal: &mut J,
 ) -> Result<OrderResult, CausedFault>
-    ensures { IfOk result (IsCome order.now.file order.now.at) }
+    ensures ok { IfOk result (IsCome order.now.file order.now.at) }
+    ensures behind { J.is_honest journal.old ≡ true → SomeJournaled J.held J.is_missed
+        order.now.file order.now.at journal.old journal.new }
 {
     if message.len() > MAX_BODY_BYTES {
         return Err(CausedFault::without_cause(Fault::Input(Refused::TooLarge)));
@@ -100,6 +108,8 @@ fn send_on<R: Locks + Net + Clock, W: Write, F: Write, J: Journal>(
     ensures sent { SendsOn order.now.file order.now.at (traffic W.contents writer.old writer.new)
         (traffic F.contents faults.old faults.new) result }
     ensures known { result ≤ 4 }
+    ensures behind { J.is_honest journal.old ≡ true → SomeJournaled J.held J.is_missed
+        order.now.file order.now.at journal.old journal.new }
 {
     match post_order(rt, alloc, order, to, message, journal) {
         Ok(OrderResult::Answered(output)) => finish(Ok(output), writer, faults),
@@ -126,6 +136,8 @@ fn give_on<R: Locks + Net + Clock, W: Write, F: Write, J: Journal>(
         (traffic W.contents writer.old writer.new)
         (traffic F.contents faults.old faults.new) result }
     ensures known { result ≤ 4 }
+    ensures behind { J.is_honest journal.old ≡ true → SomeJournaled J.held J.is_missed
+        order.now.file order.now.at journal.old journal.new }
 {
     let status = finish(step_output(alloc, reply, &None), writer, faults);
     if status != 0 {
@@ -150,6 +162,8 @@ fn give_out<R: Locks + Net + Clock, W: Write, F: Write, J: Journal>(
         (traffic W.contents writer.old writer.new)
         (traffic F.contents faults.old faults.new) result }
     ensures known { result ≤ 4 }
+    ensures behind { J.is_honest journal.old ≡ true → SomeJournaled J.held J.is_missed
+        order.now.file order.now.at journal.old journal.new }
 {
     let OrderOutput {
         reply,
@@ -205,10 +219,19 @@ pub fn run_send_order<R: Locks + Net + Clock, I: Read, W: Write, F: Write, J: Jo
     // line, or the text begins with `@`, and memory runs out for the peers' file that it names or
     // that can't be loaded; or it gives up as `order` does; or it reads and writes nothing, with
     // status 2. The status is one of 0 to 4.
+    // By `ends`.
+    // Proved: An honest journal holds behind `order --send` the line of the order's step, and behind
+    // that the line of the step by the answer, where there is one that the controller took; where
+    // it gave up before the order's step, what it held, unless memory ran out behind the save.
+    // By `journal`.
     // Not proved: that status 2 is for what is no URL: cases show it.
-    ensures { EndsSendOrder order.now.file order.now.at order.now.url.now
+    ensures ends { EndsSendOrder order.now.file order.now.at order.now.url.now
         (traffic I.remaining reader.old reader.new) (traffic W.contents writer.old writer.new)
         (traffic F.contents faults.old faults.new) result }
+    ensures journal { J.is_honest journal.old ≡ true → EndsJournaled J.is_honest J.held
+        J.is_missed order.now.file order.now.at order.now.url.now
+        (traffic I.remaining reader.old reader.new) (traffic W.contents writer.old writer.new)
+        (traffic F.contents faults.old faults.new) result journal.old journal.new }
 {
     let to = match SendTo::of(rt, alloc, order.url) {
         Ok(Some(to)) => to,

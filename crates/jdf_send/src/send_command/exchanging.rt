@@ -1,5 +1,8 @@
 //! A message over one connection, and what comes back.
 
+ghost use Rattle.std.specs.Prelude.{IfOk};
+ghost use Rattle.jdf_send.specs.SendCommand.{IsPosted};
+
 use crate::input_file::{file_of, open_input};
 use crate::send_command::connecting::connect;
 use document_commands::CausedFault;
@@ -86,7 +89,10 @@ fn exchange<S: Read + Write>(
     destination: &Destination,
     message: &[u8],
     stream: &mut Counted<S>,
-) -> Result<Received, Refused> {
+) -> Result<Received, Refused>
+    ensures { IfOk result (λ received. IsPosted S.remaining S.contents stream.old stream.new
+        destination.now message.now received.status received.body) }
+{
     send_to(stream, destination.authority(), destination.path(), message)?;
     receive(alloc, stream)
 }

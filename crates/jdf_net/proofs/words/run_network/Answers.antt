@@ -8,4 +8,4 @@ returns-then-is_etcd g c =
 
 pub returns-else-is_etcd : goal.returns-else-is_etcd
 returns-else-is_etcd g c =
-    rw c.in-SendOrder.is (sends_of_file _ _ _ _ _ _ _ _ (sym c.is_etcd.ensures ∙ c.if-is_etcd.false) c.run_send_order.ensures)
+    rw c.in-SendOrder.is (sends_of_file _ _ _ _ _ _ _ _ (sym c.is_etcd.ensures ∙ c.if-is_etcd.false) c.run_send_order.ensures.ends)
