@@ -1,1 +1,3 @@
 pub mod Landing
+pub mod Looking
+pub mod Numbers

@@ -1,8 +1,13 @@
 //! What of the controllers' parts is out, where it goes, and what is to be done so that it goes.
 
 ghost use Rattle.std.specs.Prelude.{◌≡◌, ◌<◌, ◌≤◌, ℕ, [], None, false, length, IfOk, IfSome};
+ghost use Rattle.std.specs.Prelude.{OnOk, Some, slice_get, string_bytes};
+ghost use Rattle.std.specs.HashMap.{get_by_text};
 ghost use Rattle.courier.specs.Table.{flies_at};
 ghost use Rattle.slab.specs.Slab.{get};
+ghost use Rattle.stored_state.specs.Outgoing.{out_of};
+ghost use Rattle.server_post.specs.Lines.{IsLineOf, IsPaired, texts_of};
+ghost use Rattle.server_post.specs.Looks.{SeesController};
 ghost use Rattle.server_post.specs.Orders.{SendsFlight, resend_text};
 
 use crate::own::{Own, Parcel, Task};
@@ -29,6 +34,12 @@ impl Post {
             line < length self.new.deliveries.destinations)) }
         ensures stay { length self.old.deliveries.destinations
             ≤ length self.new.deliveries.destinations }
+        ensures boxes { self.new.deliveries.outboxes ≡ self.old.deliveries.outboxes }
+        ensures its { IsPaired self.old.targets self.old.deliveries.destinations
+            → IfOk result (λ found. IfSome found
+            (IsLineOf name.now self.old.peers self.new.targets)) }
+        ensures paired { IsPaired self.old.targets self.old.deliveries.destinations
+            → OnOk result (IsPaired self.new.targets self.new.deliveries.destinations) }
     {
         let Some(found) = self.peers.url_of(name.as_str()) else {
             return Ok(None);
@@ -48,10 +59,17 @@ impl Post {
         url: String,
         now: u64,
     ) -> Result<Option<usize>, AllocError>
+        requires { get_by_text self.old.targets (string_bytes url) ≡ None }
         ensures there { IfOk result (λ found. IfSome found (λ line.
             line < length self.new.deliveries.destinations)) }
         ensures stay { length self.old.deliveries.destinations
             ≤ length self.new.deliveries.destinations }
+        ensures boxes { self.new.deliveries.outboxes ≡ self.old.deliveries.outboxes }
+        ensures its { IsPaired self.old.targets self.old.deliveries.destinations
+            → IfOk result (λ found. IfSome found (λ line.
+            slice_get (texts_of self.new.targets) line ≡ Some (string_bytes url))) }
+        ensures paired { IsPaired self.old.targets self.old.deliveries.destinations
+            → OnOk result (IsPaired self.new.targets self.new.deliveries.destinations) }
     {
         let text = format!(in alloc; "http://{url}")?;
         let Some(destination) = Destination::of(alloc, text.as_str())? else {
@@ -110,7 +128,12 @@ impl Post {
         number: usize,
         controller: &AnyController,
         now: u64,
-    ) -> Result<(), AllocError> {
+    ) -> Result<(), AllocError>
+        // Proved: Behind a look at a controller what it has out is known under its own number: no
+        // spawn that it hasn't out has progress there, and what the others have out stays.
+        ensures { OnOk result (SeesController number (out_of controller.now) self.old.deliveries
+            self.new.deliveries) }
+    {
         let all = controller.out(alloc)?;
         let mut out = Vec::with_capacity(alloc, all.len())?;
         for (spawn, name) in all {
