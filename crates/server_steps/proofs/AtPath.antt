@@ -9,6 +9,7 @@ use Rattle.rounds.specs.declared.errand.Errand.{Errand}
 use Rattle.stored_state.specs.declared.addressee.Addressee.{Addressee}
 use Rattle.stored_state.specs.declared.any_controller.AnyController.{AnyController}
 use Rattle.server_steps.specs.Journaled.{KeepsJournalAt}
+use Rattle.server_steps.specs.OrderLines.{OrdersJournalAt}
 use Rattle.server_steps.specs.Orders.{AreOrdersStepped, AreOrdersSteppedAt}
 use Rattle.server_steps.specs.Steps.{IsStepped, IsSteppedAt}
 use Rattle.server_steps.specs.declared.order_steps.OrdersResult.{OrdersResult}
@@ -29,6 +30,12 @@ module _ (R : Type 0) (path : List ℕ) (to : Addressee) (now : ℕ) (last : Opt
       → MatchResult r (KeepsJournalAt R other held is_missed path to now errands old new) (λ e. IsLeft held is_missed old new)
   journal_alike held is_missed old new errands one other r same is =
       subst (λ b. MatchResult r (KeepsJournalAt R b held is_missed path to now errands old new) (λ e. IsLeft held is_missed old new)) same is
+
+  pub orders_journal_alike : {E J : Type 0} (held : J → List ℕ) (is_missed : J → Bool) (old new : J) (orders : List (Errand UnixStream)) (one other : Bool) (r : Result OrdersResult E) → one ≡ other
+      → MatchResult r (OrdersJournalAt R one held is_missed path to now orders old new) (λ e. IsLeft held is_missed old new)
+      → MatchResult r (OrdersJournalAt R other held is_missed path to now orders old new) (λ e. IsLeft held is_missed old new)
+  orders_journal_alike held is_missed old new orders one other r same is =
+      subst (λ b. MatchResult r (OrdersJournalAt R b held is_missed path to now orders old new) (λ e. IsLeft held is_missed old new)) same is
 
   steps_of : (errands : List (Errand TcpStream)) (r : StepsResult) → IsStepped path to now errands last r → IsSteppedAt R false path to now errands last r
   steps_of errands (answered_so answered saved) is = is

@@ -33,7 +33,7 @@ of_pairs name at f h (x ∷ xs) [] = refl
 of_pairs name at f h (x ∷ xs) (y ∷ ys) =
     ap (λ lines. line_for name at (f x) (h y) ++ lines) (of_pairs name at f h xs ys)
 
-flat_of_map : {X Y A : Type 0} (line : Y → List A) (f : X → Y) (xs : List X) → flat_map (λ x. line (f x)) xs ≡ flat_map line (map f xs)
+pub flat_of_map : {X Y A : Type 0} (line : Y → List A) (f : X → Y) (xs : List X) → flat_map (λ x. line (f x)) xs ≡ flat_map line (map f xs)
 flat_of_map line f [] = refl
 flat_of_map line f (x ∷ xs) = ap (λ ys. line (f x) ++ ys) (flat_of_map line f xs)
 

@@ -1,7 +1,7 @@
 -- The lines that `serve` appends to its journal, of the steps of one turn: one of each step that was
 -- saved and, as its reply tells, changed its controller.
 use Rattle.std.specs.Prelude.{◌≡◌, ◌≢◌, ◌⊎◌, ◌&&◌, ◌++◌, ℕ, Bool, true, false, not, List, [], ◌∷◌}
-use Rattle.std.specs.Prelude.{map, codes}
+use Rattle.std.specs.Prelude.{⊤, map, codes}
 use Rattle.std.specs.Prelude.{Option, Some, None, Result, Ok, Err, if◌then◌else◌, option_map}
 use Rattle.ticket_items.specs.declared.refusal.Refusal.{Refusal}
 use Rattle.world_items.specs.declared.reply.Reply.{Reply}
@@ -173,6 +173,19 @@ OwnStepsFound is_honest file_bytes (Ok (Some keep)) to at all last result =
     OwnStepsKept is_honest file_bytes keep to at all result
 OwnStepsFound is_honest file_bytes (Ok None) to at all last result = IsGivenBack all last result
 OwnStepsFound is_honest file_bytes (Err e) to at all last result = result ≡ own_stepped.Failed
+
+-- the same of the controller at a path, in its file or under its key; only of a file it is told that
+-- somebody else has it locked
+abbrev pub OwnStepsAt : (R : Type 0) → Bool → List ℕ → Addressee → ℕ → List Coming
+    → Option AnyController → OwnStepResult → Type 0
+OwnStepsAt R true path to at all last (own_stepped.Stepped given saved) =
+    (keep : EtcdKeep R) × IsKeepAt path keep
+    × OwnStepsKept etcd.is_honest etcd.value_bytes keep to at all (own_stepped.Stepped given saved)
+OwnStepsAt R false path to at all last (own_stepped.Stepped given saved) =
+    OwnStepsKept is_honest file_bytes (keep_in_file path) to at all (own_stepped.Stepped given saved)
+OwnStepsAt R in_etcd path to at all last (own_stepped.LockedOut left kept) =
+    (in_etcd ≡ false) × (left.items ≡ all) × (kept ≡ last)
+OwnStepsAt R in_etcd path to at all last own_stepped.Failed = ⊤
 
 -- the lines of its steps are in the journal; where nothing was given out that is left
 abbrev pub KeepsOwnJournal : {J : Type 0} → (J → List ℕ) → (J → Bool) → ℕ → List Coming → J → J

@@ -1,7 +1,9 @@
+pub mod Begun
 pub mod InEtcd
 pub mod Journaled
 pub mod Listed
 pub mod Looks
+pub mod OrderLines
 pub mod Orders
 pub mod Routes
 pub mod Steps

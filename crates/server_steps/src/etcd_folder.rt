@@ -1,7 +1,10 @@
 //! What lies under a path: in a folder of files, or in one of etcd.
 
-ghost use Rattle.std.specs.Prelude.{[], IfOk, IfSome};
+ghost use Rattle.std.specs.Prelude.{◌≡◌, [], false, true, None, IfOk, IfSome};
 ghost use Rattle.etcd_place.specs.NamedFolder.{named_folder};
+ghost use Rattle.etcd_place.specs.Place.{etcd_place_in, is_etcd as is_etcd_text};
+ghost use Rattle.keepers.specs.SystemFile.{file_bytes, is_honest, keep_in_new_file, place};
+ghost use Rattle.server_steps.specs.Begun.{Begins};
 ghost use Rattle.server_steps.specs.Listed.{AddsAllListed, AddsListed, AreListedIn};
 
 use crate::engine::Engine;
@@ -132,7 +135,15 @@ pub fn begin_at<R: Locks + Net + Clock>(
     path: &str,
     name: &Id,
     master: &Id,
-) -> bool {
+) -> bool
+    // Proved: A worker that is told to have begun in a file is of the name and for the master that
+    // were given, and these differ: its state is held by the keeper over the new file of this path,
+    // if that is honest. At a path that is to be a place in etcd and is none, no worker begins.
+    // By `file`, `etcd`; `begin_kept`.
+    ensures file { is_etcd_text path.now ≡ false → result ≡ true
+        → Begins is_honest file_bytes place (keep_in_new_file path.now) name.now master.now }
+    ensures etcd { is_etcd_text path.now ≡ true → etcd_place_in path.now ≡ None → result ≡ false }
+{
     if !is_etcd(path) {
         return begin_in_file(rt, alloc, path, name, master);
     }

@@ -1,10 +1,10 @@
 //! The steps of the controller at a path: in its file, or under its key in etcd.
 
-ghost use Rattle.std.specs.Prelude.{◌≡◌, true, Err, None, IfOk, IfSome, MatchResult};
+ghost use Rattle.std.specs.Prelude.{◌≡◌, ℕ, true, Err, None, IfOk, IfSome, MatchResult};
 ghost use Rattle.etcd_place.specs.Place.{etcd_place_in, is_etcd as is_etcd_text};
 ghost use Rattle.journal.specs.Journal.{IsLeft};
 ghost use Rattle.server_steps.specs.InEtcd.{IsKeepAt};
-ghost use Rattle.server_steps.specs.Journaled.{KeepsJournalAt};
+ghost use Rattle.server_steps.specs.Journaled.{KeepsJournalAt, KeepsOwnJournal, OwnStepsAt};
 ghost use Rattle.server_steps.specs.Looks.{IsSeenAt};
 ghost use Rattle.server_steps.specs.Steps.{IsSteppedAt};
 ghost use Rattle.streams.specs.declared.refused.Refused.TheVariants.{LoadFailed};
@@ -124,7 +124,11 @@ fn step_own_in_etcd<R: Net + Clock, J: Journal>(
     all: Vec<Coming>,
     engine: &mut Engine,
     journal: &mut J,
-) -> OwnStepResult {
+) -> OwnStepResult
+    ensures { (at : ℕ) × OwnStepsAt R true path.now to.entry at all.items last result
+        × (J.is_honest journal.old ≡ true
+        → KeepsOwnJournal J.held J.is_missed at all.items journal.old journal.new result) }
+{
     let Some(at) = seconds(rt) else {
         drop(last);
         drop(all);
@@ -159,7 +163,16 @@ pub fn step_own_at<R: Locks + Net + Clock, J: Journal>(
     all: Vec<Coming>,
     engine: &mut Engine,
     journal: &mut J,
-) -> OwnStepResult {
+) -> OwnStepResult
+    // Proved: What no client waits for comes, at one time, to the controller at a path, if that is
+    // one that is addressed: in the file of this path, or, where the path is to be a place in etcd,
+    // under the key that it names, and never in a file; and an honest journal gets its lines, as it
+    // does of clients. Where somebody else has the file locked all is given back as it was.
+    // By `step_own_found`: `steps`, `journaled`.
+    ensures { (at : ℕ) × OwnStepsAt R (is_etcd_text path.now) path.now to.entry at all.items last
+        result × (J.is_honest journal.old ≡ true
+        → KeepsOwnJournal J.held J.is_missed at all.items journal.old journal.new result) }
+{
     if is_etcd(path) {
         return step_own_in_etcd(rt, alloc, path, last, to, all, engine, journal);
     }

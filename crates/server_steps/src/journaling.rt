@@ -2,11 +2,15 @@
 
 ghost use Rattle.std.specs.Prelude.{◌≡◌, ◌++◌, List, Option, Some, true, map, option_map};
 ghost use Rattle.std.specs.Prelude.{IfOk, MatchResult, OnOk};
+ghost use Rattle.std.specs.List.{AllZip};
 ghost use Rattle.journal.specs.Journal.{Misses};
 ghost use Rattle.rounds.specs.Line.{comings_of};
 ghost use Rattle.stored_state.specs.Addressee.{name_of};
+ghost use Rattle.stored_state.specs.declared.coming.Coming.{Coming};
 ghost use Rattle.server_steps.specs.Journaled as told;
 ghost use Rattle.server_steps.specs.Journaled.{AreJournaled, StepName, StepsJournaled};
+ghost use Rattle.server_steps.specs.OrderLines.{IsNameOf, OrdersJournaled, kept_name, order_line};
+ghost use Rattle.server_steps.specs.OrderLines.{order_lines, reply_in};
 
 use controller::{Body, Reply};
 use journal::{Journal, message_word, order_word, step_line};
@@ -285,12 +289,18 @@ pub(crate) fn journal_own_steps<J: Journal>(
 }
 
 /// The name of an order; nothing of what is none.
-fn word_of(alloc: Global, coming: &Coming) -> Result<Option<String>, AllocError> {
+fn word_of(alloc: Global, coming: &Coming) -> Result<Option<String>, AllocError>
+    ensures { IfOk result (λ word. IsNameOf coming.now (kept_name word)) }
+{
     match coming {
         Coming::Order(bytes) => match order_word(alloc, bytes.as_slice()) {
             Ok(word) => Ok(Some(word)),
-            Err(Refusal::Memory) => Err(AllocError),
-            Err(_) => Ok(None),
+            Err(refusal) => {
+                if refusal == Refusal::Memory {
+                    return Err(AllocError);
+                }
+                Ok(None)
+            }
         },
         Coming::Message(_) | Coming::Neither(_) => Ok(None),
     }
@@ -301,7 +311,10 @@ pub(crate) fn words_of<J: Journal, S: Drop>(
     alloc: Global,
     journal: &J,
     orders: &[Errand<S>],
-) -> Result<Vec<Option<String>>, AllocError> {
+) -> Result<Vec<Option<String>>, AllocError>
+    ensures { J.is_honest journal.now ≡ true → IfOk result
+        (λ words. AllZip IsNameOf (comings_of orders.now) (map kept_name words.items)) }
+{
     let mut words = Vec::new(alloc);
     if !journal.is_wanted() {
         return Ok(words);
@@ -312,20 +325,40 @@ pub(crate) fn words_of<J: Journal, S: Drop>(
     Ok(words)
 }
 
-/// The lines of the steps by orders. Who gave them over the local socket isn't known.
+/// Appends the line of the step by an order to lines, if it was taken. Who gave it over the local
+/// socket isn't known.
+fn push_ordered<S: Drop>(
+    alloc: Global,
+    lines: &mut Vec<u8>,
+    controller: &AnyController,
+    word: &Option<String>,
+    ordered: &AnsweredOperator<S>,
+    at: u64,
+) -> Result<(), AllocError>
+    ensures { OnOk result (lines.new.items ≡ lines.old.items
+        ++ order_line (name_of controller.now) at (kept_name word.now) (reply_in ordered.now)) }
+{
+    if let (Some(word), Some(reply)) = (word, ordered.reply) {
+        let line = step_line(alloc, controller.name(), None, word.as_str(), reply, at)?;
+        lines.extend_from_slice(line.as_slice())?;
+    }
+    Ok(())
+}
+
+/// The lines of the steps by orders.
 fn ordered_lines<S: Drop>(
     alloc: Global,
     words: &[Option<String>],
     ordered: &[AnsweredOperator<S>],
     controller: &AnyController,
     at: u64,
-) -> Result<Vec<u8>, AllocError> {
+) -> Result<Vec<u8>, AllocError>
+    ensures { IfOk result (λ lines. lines.items ≡ order_lines (name_of controller.now) at
+        (map kept_name words.now) (map reply_in ordered.now)) }
+{
     let mut lines = Vec::new(alloc);
     for (word, one) in words.iter().zip(ordered.iter()) {
-        if let (Some(word), Some(reply)) = (word, one.reply) {
-            let line = step_line(alloc, controller.name(), None, word.as_str(), reply, at)?;
-            lines.extend_from_slice(line.as_slice())?;
-        }
+        push_ordered(alloc, &mut lines, controller, word, one, at)?;
     }
     Ok(lines)
 }
@@ -338,7 +371,12 @@ pub(crate) fn journal_order_steps<J: Journal, S: Drop>(
     ordered: &[AnsweredOperator<S>],
     saved: &Option<SavedState>,
     at: u64,
-) {
+)
+    ensures { J.is_honest journal.old ≡ true → (all : List Coming)
+        → IfOk words (λ words. AllZip IsNameOf all (map kept_name words.items))
+        → OrdersJournaled J.held J.is_missed at all (map reply_in ordered.now) saved.now journal.old
+        journal.new }
+{
     let Some(saved) = saved else {
         return;
     };

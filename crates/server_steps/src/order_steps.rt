@@ -1,9 +1,11 @@
 //! The steps of a controller by orders that come over the local socket.
 
-ghost use Rattle.std.specs.Prelude.{length, true, IfOk};
+ghost use Rattle.std.specs.Prelude.{◌≡◌, length, false, true, IfOk, MatchResult};
+ghost use Rattle.journal.specs.Journal.{IsLeft};
 ghost use Rattle.rounds.specs.Line.{AreToldOf, HasRoom, waiting_of};
 ghost use Rattle.rounds.specs.Orders.{HasReply};
 ghost use Rattle.etcd_place.specs.Place.{is_etcd as is_etcd_text};
+ghost use Rattle.server_steps.specs.OrderLines.{OrdersJournalAt, OrdersKeepJournal};
 ghost use Rattle.server_steps.specs.Orders.{AreOrdersStepped, AreOrdersSteppedAt, OrdersKept};
 
 use crate::engine::{Engine, orders_are_failed};
@@ -61,8 +63,11 @@ fn order_kept<R: Clock, K: RoundKeep, J: Journal, S: Drop>(
     journal: &mut J,
 ) -> (Vec<AnsweredOperator<S>>, Option<SavedState>)
     requires { HasRoom (length orders.items) room }
-    ensures { OrdersKept K.is_honest K.held K.place K.count K.load_fails K.save_fails keep to.entry
-        now orders.items result.0.items result.1 }
+    ensures steps { OrdersKept K.is_honest K.held K.place K.count K.load_fails K.save_fails keep
+        to.entry now orders.items result.0.items result.1 }
+    ensures journaled { J.is_honest journal.old ≡ true → OrdersKeepJournal K.is_honest K.held
+        K.place K.count K.load_fails K.save_fails J.held J.is_missed keep to.entry now orders.items
+        result.0.items result.1 journal.old journal.new }
 {
     match seconds(rt) {
         Some(at) => {
@@ -93,7 +98,10 @@ fn order_in_file<R: Locks + Clock, J: Journal>(
     now: u64,
     journal: &mut J,
 ) -> Result<OrdersResult, AllocError>
-    ensures { IfOk result (AreOrdersStepped path.now to.entry now orders.items last) }
+    ensures steps { IfOk result (AreOrdersStepped path.now to.entry now orders.items last) }
+    ensures journaled { J.is_honest journal.old ≡ true → MatchResult result
+        (OrdersJournalAt R false J.held J.is_missed path.now to.entry now orders.items journal.old
+        journal.new) (λ _. IsLeft J.held J.is_missed journal.old journal.new) }
 {
     let room = Room::new(alloc, orders.len())?;
     match FileKeep::try_lock(rt, alloc, path) {
@@ -122,7 +130,11 @@ fn order_in_etcd<R: Net + Clock, J: Journal>(
     engine: &mut Engine,
     journal: &mut J,
 ) -> Result<OrdersResult, AllocError>
-    ensures { IfOk result (AreOrdersSteppedAt R true path.now to.entry now orders.items last) }
+    ensures steps { IfOk result
+        (AreOrdersSteppedAt R true path.now to.entry now orders.items last) }
+    ensures journaled { J.is_honest journal.old ≡ true → MatchResult result
+        (OrdersJournalAt R true J.held J.is_missed path.now to.entry now orders.items journal.old
+        journal.new) (λ _. IsLeft J.held J.is_missed journal.old journal.new) }
 {
     let room = Room::new(alloc, orders.len())?;
     let found = keep_for(rt, alloc, path, engine)?;
@@ -153,9 +165,16 @@ pub fn order_at<R: Locks + Net + Clock, J: Journal>(
     // Proved: Those who gave orders for the controller at a path are answered as `answer_all` says,
     // by the keeper in the file of this path, or, where the path is to be a place in etcd, by one
     // of the key that it names; or each is refused with 503; or somebody else has the file locked,
-    // and they wait on.
-    ensures { IfOk result (AreOrdersSteppedAt R (is_etcd_text path.now) path.now to.entry now
+    // and they wait on. A journal that is honest gets, behind the save, a line of each order that
+    // was taken and has a name, in turn, with no sender; or it misses them, which is told; where
+    // nothing was saved it is left as it was.
+    // By `steps`, `journaled`.
+    ensures steps { IfOk result (AreOrdersSteppedAt R (is_etcd_text path.now) path.now to.entry now
         orders.items last) }
+    ensures journaled { J.is_honest journal.old ≡ true → MatchResult result
+        (OrdersJournalAt R (is_etcd_text path.now) J.held J.is_missed path.now to.entry now
+        orders.items journal.old journal.new)
+        (λ _. IsLeft J.held J.is_missed journal.old journal.new) }
 {
     if is_etcd(path) {
         return order_in_etcd(rt, alloc, path, last, to, orders, now, engine, journal);

@@ -1,13 +1,15 @@
 //! The steps of those who wait for one controller, under the lock of its file.
 
-ghost use Rattle.std.specs.Prelude.{◌≡◌, length, false, true, IfOk, MatchResult};
+ghost use Rattle.std.specs.Prelude.{◌≡◌, ℕ, length, false, true, IfOk, MatchResult};
 ghost use Rattle.journal.specs.Journal.{IsLeft};
+ghost use Rattle.keepers.specs.SystemFile.{file_bytes, is_honest, keep_in_new_file, place};
 ghost use Rattle.rounds.specs.Line.{HasRoom};
 ghost use Rattle.stored_state.specs.Held.{HoldsSame};
+ghost use Rattle.server_steps.specs.Begun.{Begins};
 ghost use Rattle.server_steps.specs.Looks.{HoldsSaved, IsSeen, IsSeenAt};
 ghost use Rattle.server_steps.specs.Steps.{IsStepped, StepsKept};
 ghost use Rattle.server_steps.specs.Journaled.{KeepsJournal, KeepsJournalIn, KeepsOwnJournal};
-ghost use Rattle.server_steps.specs.Journaled.{OwnStepsFound, OwnStepsKept};
+ghost use Rattle.server_steps.specs.Journaled.{OwnStepsAt, OwnStepsFound, OwnStepsKept};
 
 use crate::journaling::{
     calls_of_comings, calls_of_errands, journal_clients_steps, journal_own_steps,
@@ -99,8 +101,6 @@ pub(crate) fn step_in_file<R: Locks + Clock, J: Journal>(
     // the keeper in the file of this path, if that holds one that is addressed, at some time; or
     // each is refused with 503; or somebody else has the file locked, and they wait on.
     // By `steps`, `journaled`.
-    // Not proved: that a journal gets the lines of orders that come over the socket: tests show
-    // it.
     ensures steps { IfOk result (IsStepped path.now to.entry now errands.items last) }
     // Proved: A journal that is honest gets, behind the save, a line of each step of those who
     // wait that was accepted and changed the controller, in turn, at the time of the step and with
@@ -128,7 +128,9 @@ pub(crate) fn step_in_file<R: Locks + Clock, J: Journal>(
 }
 
 /// Begins a worker of this name for this master. Answers whether the keeper has it.
-pub(crate) fn begin_kept<K: Keep>(alloc: Global, keep: K, name: &Id, master: &Id) -> bool {
+pub(crate) fn begin_kept<K: Keep>(alloc: Global, keep: K, name: &Id, master: &Id) -> bool
+    ensures { result ≡ true → Begins K.is_honest K.held K.place keep name.now master.now }
+{
     let Ok(name) = name.copy(alloc) else {
         drop(keep);
         return false;
@@ -155,7 +157,10 @@ pub(crate) fn begin_in_file<R: Locks>(
     path: &str,
     name: &Id,
     master: &Id,
-) -> bool {
+) -> bool
+    ensures { result ≡ true → Begins is_honest file_bytes place (keep_in_new_file path.now) name.now
+        master.now }
+{
     begin_kept(alloc, FileKeep::create_new(rt, alloc, path), name, master)
 }
 
@@ -228,7 +233,11 @@ pub(crate) fn step_own_in_file<R: Locks + Clock, J: Journal>(
     to: Addressee<'_>,
     all: Vec<Coming>,
     journal: &mut J,
-) -> OwnStepResult {
+) -> OwnStepResult
+    ensures { (at : ℕ) × OwnStepsAt R false path.now to.entry at all.items last result
+        × (J.is_honest journal.old ≡ true
+        → KeepsOwnJournal J.held J.is_missed at all.items journal.old journal.new result) }
+{
     let Some(at) = seconds(rt) else {
         return OwnStepResult::Failed;
     };
