@@ -22,13 +22,12 @@ import signal
 import socket
 import subprocess
 import sys
-import threading
 import time
 
-import chaos
 import days
 import processes
 from crowd import free_port, locked, until_so
+from harmful import HARMS, Harmful, takes_no_connection
 from houses import (House, all_files, begins, begins_master, begins_worker, gives, lines_of,
                     master_opening, put_peers, three_houses, url_to)
 from processes import (AT, FINISH, PROGRAM, Served, asked, content, order, request, response, run,
@@ -263,6 +262,22 @@ def a_link_to_a_peers_file_is_one():
 # ---- who may send
 
 
+def a_name_that_no_field_can_have_is_refused():
+    """Nothing is listened on then, and FILE, which isn't there, not looked for. Each name that a
+    field can have is taken."""
+    for name in ("", "a:b", "a b", " a", "X-Sender:", "a\tb", "(a)", "X-S\u00e4nder"):
+        told = (f"error: invalid value '{name}' for '--sender-field <NAME>': "
+                "it is no name of a header field\n")
+        wants(run("serve", "nothing", "--listen", "127.0.0.1:0", "--sender-field", name),
+              (2, "", told))
+    begins_worker("press", "press", "mis")
+    message = cover_from("mis")
+    name = "!#$%&'*+-.^_`|~0aZ"
+    with Served("press", "--sender-field", name) as press:
+        wants(asked(press, request(message, "X-Sender: mis\r\n")), 403)
+        wants(asked(press, request(message, name + ": mis\r\n")), 200)
+
+
 def a_sender_is_who_it_says():
     """A proxy tells in a field who sends; a message with another's name is refused."""
     begins_master("mis", "mis")
@@ -275,10 +290,24 @@ def a_sender_is_who_it_says():
                      "X-Sender: bind\r\nX-Sender: bind\r\n", "X-Sender: Bind\r\n",
                      "X-Sender: bind\r\nX-Sender: mis\r\n", "X-Senders: bind\r\n"):
             wants((head, asked(mis, request(back, head))), (head, 403))
+        for head in ("Origin: http://127.0.0.1\r\n", "origin: null\r\n"):
+            wants((head, asked(mis, request(back, head + "X-Sender: bind\r\n"))), (head, 403))
         wants(content("mis"), before)
-        wants(set(mis.told(8)), {"- 403 63 Forbidden"})
+        wants(set(mis.told(10)), {"- 403 63 Forbidden"})
         wants(asked(mis, request(back, "x-sender:  bind \r\n")), 200)
-        wants(mis.told(9)[-1], "mis 200 Merged S1 from bind")
+        wants(mis.told(11)[-1], "mis 200 Merged S1 from bind")
+
+
+def no_page_in_a_browser_sends():
+    """What a page has a browser send, anybody's page, is refused where anybody may send, too."""
+    begins_worker("press", "press", "mis")
+    message = cover_from("mis")
+    with Served("press") as press:
+        for head in ("Origin: http://elsewhere.example\r\n", "ORIGIN: null\r\n"):
+            wants((head, asked(press, request(message, head))), (head, 403))
+        wants(lines_of("press"), [])
+        wants(asked(press, request(message, "Referer: http://elsewhere.example\r\n")), 200)
+        wants(press.told(3)[:2], 2 * ["- 403 63 Forbidden"])
 
 
 def a_sender_is_known():
@@ -389,6 +418,16 @@ def a_server_that_is_started_later_has_it():
         until_so(lambda: "job-17 S1 taken" in office.sent(), "it is told", SOON)
         *before, last = office.sent()
         wants((set(before), last), ({"job-17 S1 not taken"}, "job-17 S1 taken"))
+
+
+def a_house_that_does_not_know_the_sender():
+    """What the other end says with its status stands in the log."""
+    with three_houses(("job-17",)) as ((office, printers, _), _):
+        put_peers("printers", {"bind": "http://127.0.0.1:9/jmf"})
+        message = between(cover_from("mis"), "press", "job-17")
+        until_so(lambda: asked(printers, request(message)) == 403, "the table is read", SOON)
+        gives("office/job-17", COVER, "Spawned S1")
+        until_so(lambda: "job-17 S1 not taken 403" in office.sent(), "it is told", SOON)
 
 
 def a_house_that_speaks_is_back():
@@ -583,98 +622,6 @@ def a_worker_is_begun_by_its_first_command():
 # ---- destinations that harm
 
 
-class Harmful:
-    """A destination that takes a connection, and then does as `call` says with it."""
-
-    def __init__(self, call, backlog=64):
-        self.call, self.count = call, 0
-        self.listener = socket.create_server(("127.0.0.1", 0), backlog=backlog)
-        self.url = url_to(self.listener.getsockname()[1])
-        if call:
-            threading.Thread(target=self.accept, daemon=True).start()
-
-    def accept(self):
-        while True:
-            try:
-                connection = self.listener.accept()[0]
-            except OSError:
-                return
-            self.count += 1
-            threading.Thread(target=self.one, args=(connection,), daemon=True).start()
-
-    def one(self, connection):
-        with connection, contextlib.suppress(OSError):
-            connection.settimeout(60)
-            self.call(connection, chaos.one_request(connection))
-
-    def __enter__(self):
-        return self
-
-    def __exit__(self, *fault):
-        with contextlib.suppress(OSError):
-            self.listener.shutdown(socket.SHUT_RDWR)
-        self.listener.close()
-
-
-@contextlib.contextmanager
-def takes_no_connection():
-    """The URL of an address at which a connection is never made: its backlog is full."""
-    with Harmful(None, backlog=0) as full, contextlib.ExitStack() as stack:
-        for _ in range(4):
-            client = stack.enter_context(socket.socket())
-            client.setblocking(False)
-            client.connect_ex(full.listener.getsockname())
-        time.sleep(0.2)
-        yield full
-
-
-def drips(connection, _):
-    """A byte of a response each second."""
-    for byte in b"HTTP/1.1 200 OK\r\nContent-Length: 5\r\n" + 100 * b"A: b\r\n":
-        connection.sendall(bytes([byte]))
-        time.sleep(1)
-
-
-def is_silent(connection, _):
-    connection.recv(1)
-
-
-def answers_with(given):
-    return lambda connection, _: connection.sendall(given)
-
-
-def responds(body, status="200 OK"):
-    text = json.dumps(body) if not isinstance(body, str) else body
-    return f"HTTP/1.1 {status}\r\nContent-Length: {len(text)}\r\n\r\n{text}".encode()
-
-
-def answers_for_another(connection, given):
-    """An answer that tells of another spawn, of which its receiver knows nothing."""
-    command = json.loads(given.partition(b"\r\n\r\n")[2])["JMF"]
-    connection.sendall(responds({"JMF": {
-        "ReceiverID": command["SenderID"], "SenderID": command["ReceiverID"],
-        "TimeStamp": 1, "Version": "1.5", "Response": {
-            "ID": "Q.S77.a", "QueueEntry": {"QueueEntryID": "S77", "Status": "Running"},
-            "Reason": 0, "ReturnCode": 0, "Type": "SubmitQueueEntry", "refID": "Q.S77"}}}))
-
-
-HARMS = {
-    "drips": drips,
-    "is silent": is_silent,
-    "closes": lambda connection, _: None,
-    "garbage": answers_with(bytes(range(128, 256)) * 40),
-    "no message": answers_with(responds("{}")),
-    "half a message": answers_with(responds('{"JMF":{"ReceiverID":"job-1"')),
-    "an endless head": lambda connection, _: [connection.sendall(1000 * b"A: b\r\n")
-                                              for _ in range(100)],
-    "a larger body than it takes": answers_with(
-        b"HTTP/1.1 200 OK\r\nContent-Length: 999999999\r\n\r\n"),
-    "503": answers_with(responds("", "503 Service Unavailable")),
-    "404": answers_with(responds("no controller", "404 Not Found")),
-    "the answer of another": answers_for_another,
-}
-
-
 def a_destination_that_harms_holds_up_no_other():
     """Each of these has a part of one job and is tried again and again; what goes to others isn't
     held up. Where it is told of another URL it has its part."""
@@ -743,11 +690,14 @@ TESTS = [
     a_second_job_is_not_mistaken_for_the_first,
     what_cannot_be_served_is_not_begun,
     a_link_to_a_peers_file_is_one,
+    a_name_that_no_field_can_have_is_refused,
     a_sender_is_who_it_says,
+    no_page_in_a_browser_sends,
     a_sender_is_known,
     a_peers_file_is_read_again,
     orders_are_given_once_and_nothing_else,
     a_server_that_is_started_later_has_it,
+    a_house_that_does_not_know_the_sender,
     a_house_that_speaks_is_back,
     one_file_sends_what_is_out,
     one_house_sends_to_itself,

@@ -19,7 +19,7 @@ def put_peers(folder, table):
 
 
 # A line of what went out.
-SENT = re.compile(r"[1-9]\d* (\S+ S\d+) to (http://\S+) (taken|refused|not taken)")
+SENT = re.compile(r"[1-9]\d* (\S+ S\d+) to (http://\S+) (taken|refused|not taken(?: \d{3})?)")
 
 
 class House(Served):

@@ -1,5 +1,6 @@
 -- The lines of those who wait, by the paths of the files of their controllers.
-use Rattle.std.specs.Prelude.{◌≡◌, ◌≢◌, ◌++◌, ℕ, false, List, [], ◌∷◌, Option, Some, None, String, string_bytes}
+use Rattle.std.specs.Prelude.{◌≡◌, ◌⊎◌, ◌++◌, ℕ, false, List, [], ◌∷◌, Option, Some, None, String, string_bytes}
+use Rattle.std.specs.Option.{option_map}
 use Rattle.std.specs.declared.alloc.Global.{Global}
 use Rattle.std.specs.HashMap.{HashMap, get_by_text}
 use Rattle.std.specs.Str.{bytes_eq}
@@ -17,56 +18,74 @@ use Rattle.server_steps.specs.declared.route.Route.{Route}
 abbrev pub Lines : Type 0 → Type 0
 Lines S = HashMap (String Global) Line S
 
--- the errands in a line, if there is one
-abbrev pub errands_in : Option Line → List (Errand TcpStream)
-errands_in (Some line) = line.errands.items
-errands_in None = []
+-- what is in a line: the controller that it is for, the errands, the orders that came over the local
+-- socket, and what it is to do by itself
+pub record Queue : Type 0 where
+  pub to : Owner
+  pub errands : List (Errand TcpStream)
+  pub orders : List (Errand UnixStream)
+  pub own : List Own
 
--- what a line is to do by itself
-abbrev pub own_in : Option Line → List Own
-own_in (Some line) = line.own.items
-own_in None = []
+abbrev pub queue_of : Line → Queue
+queue_of line =
+    record {
+      to = line.to;
+      errands = line.errands.items;
+      orders = line.orders.items;
+      own = line.own.items;
+    }
 
--- the orders that came for it over the local socket
-abbrev pub orders_in : Option Line → List (Errand UnixStream)
-orders_in (Some line) = line.orders.items
-orders_in None = []
+-- nobody is in it, and nothing
+abbrev pub empty_queue : Owner → Queue
+empty_queue to = record { to = to; errands = []; orders = []; own = [] }
 
--- those in the line of this path
-abbrev pub errands_at : {S : Type 0} → Lines S → List ℕ → List (Errand TcpStream)
-errands_at lines path = errands_in (get_by_text lines path)
+abbrev pub IsEmpty : Queue → Type 0
+IsEmpty q = (q.errands ≡ []) × (q.orders ≡ []) × (q.own ≡ [])
 
--- the controller that a line is for; this one where there is no line yet
-abbrev pub owner_in : Owner → Option Line → Owner
-owner_in to (Some line) = line.to
-owner_in to None = to
+-- what is in the line of this path; where there is none yet that for this controller is empty
+abbrev pub queue_in : Owner → Option Line → Queue
+queue_in to (Some line) = queue_of line
+queue_in to None = empty_queue to
 
--- an errand stands last in the line of the controller to which this route leads, which has the
--- orders that it had and is to do by itself what it was, and the other lines are as they were
-pub record Joins {S : Type 0} (r : Route) (e : Errand TcpStream) (old new : Lines S)
-    : Type 0 where
-  pub last :
-      errands_at new (string_bytes r.path) ≡ errands_at old (string_bytes r.path) ++ e ∷ []
-  pub owner :
-      owner_in r.to (get_by_text new (string_bytes r.path))
-      ≡ owner_in r.to (get_by_text old (string_bytes r.path))
-  pub orders :
-      orders_in (get_by_text new (string_bytes r.path))
-      ≡ orders_in (get_by_text old (string_bytes r.path))
-  pub own :
-      own_in (get_by_text new (string_bytes r.path)) ≡ own_in (get_by_text old (string_bytes r.path))
-  pub others :
-      (other : List ℕ) → bytes_eq (string_bytes r.path) other ≡ false
-      → get_by_text new other ≡ get_by_text old other
+abbrev pub queue_at : {S : Type 0} → Owner → List ℕ → Lines S → Queue
+queue_at to path lines = queue_in to (get_by_text lines path)
 
--- those who are left stand in the line of this path for this controller, and the other lines are as
--- they were
-pub record Stays {S : Type 0} (path : List ℕ) (to : Owner) (left : List (Errand TcpStream))
+-- the lines of other paths are as they were
+abbrev pub OthersStay : {S : Type 0} → List ℕ → (old new : Lines S) → Type 0
+OthersStay path old new =
+    (other : List ℕ) → bytes_eq path other ≡ false → get_by_text new other ≡ get_by_text old other
+
+-- ---- who joins
+
+-- only the line of this path changes, and it does so
+pub record ChangesLine {S : Type 0} (path : List ℕ) (to : Owner) (change : Queue → Queue)
     (old new : Lines S) : Type 0 where
+  pub there : queue_at to path new ≡ change (queue_at to path old)
+  pub others : OthersStay path old new
+
+-- with one more behind the others
+abbrev pub with_errand : Errand TcpStream → Queue → Queue
+with_errand e q = record q { errands = q.errands ++ e ∷ [] }
+
+abbrev pub with_order : Errand UnixStream → Queue → Queue
+with_order o q = record q { orders = q.orders ++ o ∷ [] }
+
+abbrev pub with_own : Own → Queue → Queue
+with_own own q = record q { own = q.own ++ own ∷ [] }
+
+-- an errand stands last in the line of the controller to which this route leads, and all else in the
+-- lines is as it was
+abbrev pub Joins : {S : Type 0} → Route → Errand TcpStream → (old new : Lines S) → Type 0
+Joins r e old new = ChangesLine (string_bytes r.path) r.to (with_errand e) old new
+
+-- an order does
+abbrev pub JoinsOrders : {S : Type 0} → Route → Errand UnixStream → (old new : Lines S) → Type 0
+JoinsOrders r o old new = ChangesLine (string_bytes r.path) r.to (with_order o) old new
+
+-- ---- who waits on
+
+-- what is left of a line is in that of this path; where nothing is left the lines are as they were
+pub record Stays {S : Type 0} (path : List ℕ) (left : Queue) (old new : Lines S) : Type 0 where
   pub there :
-      left ≢ []
-      → (line : Line) × (get_by_text new path ≡ Some line) × (line.to ≡ to)
-      × (line.errands.items ≡ left)
-  pub others :
-      (other : List ℕ) → bytes_eq path other ≡ false
-      → get_by_text new other ≡ get_by_text old other
+      (option_map queue_of (get_by_text new path) ≡ Some left) ⊎ (IsEmpty left × (new ≡ old))
+  pub others : OthersStay path old new

@@ -1,5 +1,5 @@
 -- What becomes of a client's request: who may send it, and where the client stands then.
-use Rattle.std.specs.Prelude.{◌≡◌, ◌⊎◌, ◌&&◌, ℕ, Bool, true, false, List, Option, Some, None, Ok, is_some, bytes_eq}
+use Rattle.std.specs.Prelude.{◌≡◌, ◌⊎◌, ◌&&◌, ℕ, Bool, true, false, not, List, Option, Some, None, Ok, codes, is_some, bytes_eq}
 use Rattle.std.specs.Option.{option_map}
 use Rattle.mio.specs.declared.net.stream.TcpStream.{TcpStream}
 use Rattle.slab.specs.Slab.{Slab, Updates}
@@ -44,6 +44,11 @@ IsKnown (Some peers) sender known =
     (url : Option Parts) × IsUrlOf sender peers url × (known ≡ is_some url)
 IsKnown None sender known = known ≡ true
 
+-- whether a page in a browser sends this, as the head tells: it has a field `Origin` (RFC 6454, 7.3)
+abbrev pub IsOfPage : List ℕ → Bool → Type 0
+IsOfPage head page =
+    (value : Option (List ℕ)) × HasLone head (codes "Origin") value × (page ≡ is_some value)
+
 -- whether a sender may send to a server
 pub record MaySend {R F : Type 0} (s : Server R F) (head sender : List ℕ) (may : Bool)
     : Type 0 where
@@ -51,7 +56,9 @@ pub record MaySend {R F : Type 0} (s : Server R F) (head sender : List ℕ) (may
   pub tells : IsTold (option_map (λ name. name.now) s.sender_field) head sender told
   pub known : Bool
   pub knows : IsKnown (option_map (λ post. post.peers) s.post) sender known
-  pub both : may ≡ told && known
+  pub page : Bool
+  pub pages : IsOfPage head page
+  pub all : may ≡ told && known && not page
 
 -- ---- where a client stands
 

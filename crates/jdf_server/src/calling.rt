@@ -1,6 +1,11 @@
 //! Calls of other servers.
 
-ghost use Rattle.std.specs.Prelude.{◌≡◌, ◌<◌, length};
+ghost use Rattle.std.specs.Prelude.{◌≡◌, ◌<◌, length, string_bytes, IfOk, OnOk};
+ghost use Rattle.http_message.specs.Texts.{request_to};
+ghost use Rattle.peers_file.specs.Destination.{authority_of};
+ghost use Rattle.jdf_server.specs.Calls.{FollowsCall, Says};
+ghost use Rattle.jdf_server.specs.Flights.{EndsFlight, EndsIn, FailsFlight, SettlesFlight};
+ghost use Rattle.jdf_server.specs.Flights.{WithdrawsFlight};
 
 use crate::server::Server;
 use controller::Message;
@@ -11,7 +16,7 @@ use mio::net::TcpStream;
 use mio::{Interest, Token};
 use peers::{Call, CallLimits, CallTurn};
 use peers_file::Destination;
-use server_post::{CallInFlight, Own, Parcel, Task};
+use server_post::{CallInFlight, Own, Parcel, Post, Task};
 use std::alloc::{AllocError, Global};
 use std::io::{self, Write};
 use std::mem;
@@ -36,11 +41,10 @@ const DONE: u16 = 200;
 const TOO_LARGE: u16 = 413;
 
 /// The request that posts a message to a destination.
-fn request_of(
-    alloc: Global,
-    destination: &Destination,
-    text: &[u8],
-) -> Result<Vec<u8>, AllocError> {
+fn request_of(alloc: Global, destination: &Destination, text: &[u8]) -> Result<Vec<u8>, AllocError>
+    ensures { IfOk result (λ request. request.items
+        ≡ request_to (authority_of destination.now) destination.now.path text.now) }
+{
     let mut request = Counted::new(Vec::new(alloc));
     match send_to(
         &mut request,
@@ -60,17 +64,21 @@ enum CallResult {
     Answer(Message, Option<u16>),
     /// The message is too large for the other server.
     TooLarge,
+    /// No answer, with this status.
+    Status(u16),
     /// Nothing that tells whether it was taken.
     Nothing,
 }
 
 /// What a response says.
-fn result_of(alloc: Global, response: &Received) -> CallResult {
+fn result_of(alloc: Global, response: &Received) -> CallResult
+    ensures { Says response.now result }
+{
     if response.status == TOO_LARGE {
         return CallResult::TooLarge;
     }
     if response.status != DONE {
-        return CallResult::Nothing;
+        return CallResult::Status(response.status);
     }
     match decode(alloc, response.body.as_slice()) {
         Ok(message) => {
@@ -81,10 +89,85 @@ fn result_of(alloc: Global, response: &Received) -> CallResult {
     }
 }
 
+/// The address of a destination failed, so that the next of its house is tried next.
+fn fail_house(post: &mut Post, line: usize, now: u64)
+    ensures { post.new.deliveries ≡ post.old.deliveries }
+{
+    if let Some((_, destination)) = post.targets.get_index(line) {
+        post.houses.fail(destination, now);
+    }
+}
+
+/// What is in flight to a destination failed, if anything is. Answers whether it is.
+fn fail_in(post: &mut Post, line: usize, now: u64) -> bool
+    ensures { EndsIn (FailsFlight now) line post.old post.new }
+{
+    if !post.deliveries.flies(line) {
+        return false;
+    }
+    post.deliveries.fail_flight(line, now);
+    fail_house(post, line, now);
+    true
+}
+
+/// The same, where anything goes out.
+fn fail_flight(post: &mut Option<Post>, line: usize, now: u64) -> bool
+    ensures { EndsFlight (FailsFlight now) line post.old post.new }
+{
+    match post.as_mut() {
+        Some(post) => fail_in(post, line, now),
+        None => false,
+    }
+}
+
+/// What is in flight to a destination, if anything is, was accepted, or refused for the refusal of
+/// this number.
+fn settle_in(post: &mut Post, line: usize, refusal: Option<u16>, now: u64)
+    ensures { EndsIn (SettlesFlight now refusal) line post.old post.new }
+{
+    if !post.deliveries.flies(line) {
+        return;
+    }
+    match refusal {
+        None => post.deliveries.accept_flight(line, now),
+        Some(number) => post.deliveries.refuse_flight(line, number, now),
+    }
+}
+
+/// The same, where anything goes out.
+fn settle_flight(post: &mut Option<Post>, line: usize, refusal: Option<u16>, now: u64)
+    ensures { EndsFlight (SettlesFlight now refusal) line post.old post.new }
+{
+    if let Some(post) = post.as_mut() {
+        settle_in(post, line, refusal, now);
+    }
+}
+
+/// What is in flight to a destination, if anything is, turned out to be out no longer.
+fn withdraw_in(post: &mut Post, line: usize)
+    ensures { EndsIn WithdrawsFlight line post.old post.new }
+{
+    if post.deliveries.flies(line) {
+        post.deliveries.withdraw_flight(line);
+    }
+}
+
+/// The same, where anything goes out.
+fn withdraw_flight(post: &mut Option<Post>, line: usize)
+    ensures { EndsFlight WithdrawsFlight line post.old post.new }
+{
+    match post {
+        Some(post) => withdraw_in(post, line),
+        None => {}
+    }
+}
+
 impl<'a, R: Locks + Net + Clock, F: Write + Drop> Server<'a, R, F> {
     /// Writes the line of something that went out by itself, and what came of it.
     pub(crate) fn tell_parcel(&mut self, path: &str, parcel: &Parcel, what: &str)
-        ensures { self.new.clients.all ≡ self.old.clients.all }
+        ensures clients { self.new.clients.all ≡ self.old.clients.all }
+        ensures rest { (self.new.clients.now ≡ self.old.clients.now)
+            × (self.new.post ≡ self.old.post) }
     {
         if let Some(post) = &self.post
             && let Some((url, _)) = post.targets.get_index(parcel.line)
@@ -96,17 +179,37 @@ impl<'a, R: Locks + Net + Clock, F: Write + Drop> Server<'a, R, F> {
 
     /// Something in flight to a destination failed, and is tried again later.
     pub(crate) fn fail(&mut self, path: &str, parcel: &Parcel)
-        ensures { self.new.clients.all ≡ self.old.clients.all }
+        ensures clients { self.new.clients.all ≡ self.old.clients.all }
+        ensures flight { EndsFlight (FailsFlight self.old.clients.now) parcel.now.line self.old.post
+            self.new.post }
     {
-        let line = parcel.line;
-        self.tell_parcel(path, parcel, "not taken");
-        if let Some(post) = &mut self.post
-            && post.deliveries.flies(line)
-        {
-            post.deliveries.fail_flight(line, self.clients.now);
-            if let Some((_, destination)) = post.targets.get_index(line) {
-                post.houses.fail(destination, self.clients.now);
-            }
+        self.fail_as(path, parcel, "not taken");
+    }
+
+    /// The same, where the other server answered with this status.
+    fn fail_with(&mut self, path: &str, parcel: &Parcel, status: u16)
+        ensures clients { self.new.clients.all ≡ self.old.clients.all }
+        ensures flight { EndsFlight (FailsFlight self.old.clients.now) parcel.now.line self.old.post
+            self.new.post }
+    {
+        match format!(in self.alloc; "not taken {status}") {
+            Ok(what) => self.fail_as(path, parcel, what.as_str()),
+            Err(_) => self.fail(path, parcel),
+        }
+    }
+
+    /// The same, of which this is told.
+    fn fail_as(&mut self, path: &str, parcel: &Parcel, what: &str)
+        ensures clients { self.new.clients.all ≡ self.old.clients.all }
+        // Proved: What is in flight to a destination ends as its call does: it failed, and goes
+        // again; or it is taken, or refused for the number that the answer tells; or it was out no
+        // longer. Where nothing is in flight, nothing changes.
+        // By `flight`; `Server::settle`, `Server::withdraw`: `flight`.
+        ensures flight { EndsFlight (FailsFlight self.old.clients.now) parcel.now.line self.old.post
+            self.new.post }
+    {
+        self.tell_parcel(path, parcel, what);
+        if fail_flight(&mut self.post, parcel.line, self.clients.now) {
             self.watched.read_again(path);
         }
     }
@@ -114,36 +217,26 @@ impl<'a, R: Locks + Net + Clock, F: Write + Drop> Server<'a, R, F> {
     /// Something in flight to a destination was accepted, or refused for the refusal of this
     /// number.
     pub(crate) fn settle(&mut self, path: &str, parcel: &Parcel, refusal: Option<u16>)
-        ensures { self.new.clients.all ≡ self.old.clients.all }
+        ensures clients { self.new.clients.all ≡ self.old.clients.all }
+        ensures flight { EndsFlight (SettlesFlight self.old.clients.now refusal) parcel.now.line
+            self.old.post self.new.post }
     {
-        let line = parcel.line;
         let what = if refusal.is_none() {
             "taken"
         } else {
             "refused"
         };
         self.tell_parcel(path, parcel, what);
-        if let Some(post) = &mut self.post
-            && post.deliveries.flies(line)
-        {
-            match refusal {
-                None => post.deliveries.accept_flight(line, self.clients.now),
-                Some(number) => post
-                    .deliveries
-                    .refuse_flight(line, number, self.clients.now),
-            }
-        }
+        settle_flight(&mut self.post, parcel.line, refusal, self.clients.now);
     }
 
     /// Something in flight to a destination turned out to be out no longer.
     pub(crate) fn withdraw(&mut self, line: usize)
-        ensures { self.new.clients.all ≡ self.old.clients.all }
+        ensures clients { self.new.clients.all ≡ self.old.clients.all }
+        ensures flight { EndsFlight WithdrawsFlight line self.old.post self.new.post }
+        ensures lines { self.new.lines ≡ self.old.lines }
     {
-        if let Some(post) = &mut self.post
-            && post.deliveries.flies(line)
-        {
-            post.deliveries.withdraw_flight(line);
-        }
+        withdraw_flight(&mut self.post, line);
     }
 
     /// Begins a call that carries a message to a destination.
@@ -312,7 +405,13 @@ impl<'a, R: Locks + Net + Clock, F: Write + Drop> Server<'a, R, F> {
         path: String,
         parcel: Parcel,
         came: CallResult,
-    ) -> Result<(), AllocError> {
+    ) -> Result<(), AllocError>
+        // Proved: What an answer says its controller is to take, with the number by which that
+        // refuses what is in flight; a status of 413 refuses that as too large; and with another
+        // status, and where nothing tells whether it was taken, it failed.
+        // By `result_of`.
+        ensures { OnOk result (FollowsCall (string_bytes path) parcel came self.old self.new) }
+    {
         match came {
             CallResult::Answer(message, refusal) => {
                 let task = Task::Take(message, refusal);
@@ -326,6 +425,10 @@ impl<'a, R: Locks + Net + Clock, F: Write + Drop> Server<'a, R, F> {
             }
             CallResult::TooLarge => {
                 self.settle(path.as_str(), &parcel, Some(TOO_LARGE));
+                Ok(())
+            }
+            CallResult::Status(status) => {
+                self.fail_with(path.as_str(), &parcel, status);
                 Ok(())
             }
             CallResult::Nothing => {

@@ -1,11 +1,13 @@
 //! The lines of the clients whose requests wait: whose turn it is, and what comes of them.
 
-ghost use Rattle.std.specs.Prelude.{◌≡◌, None, Some, OnOk, string_bytes};
-ghost use Rattle.jdf_server.specs.Lines.{Joins};
+ghost use Rattle.std.specs.Prelude.{◌≡◌, ◌&&◌, None, Some, OnOk, not, string_bytes, true};
+ghost use Rattle.jdf_server.specs.Lines.{Joins, queue_of};
 ghost use Rattle.jdf_server.specs.Requests.{MaySend, Stands, StandsInLine};
 ghost use Rattle.jdf_server.specs.Requests.{StandsOrMisses, StandsWith};
-ghost use Rattle.jdf_server.specs.Requests.{IsKnown, IsTold, StandsWithout};
-ghost use Rattle.jdf_server.specs.Turns.{StepsLineTo, StepsThere, WaitsOn};
+ghost use Rattle.jdf_server.specs.Requests.{IsKnown, IsOfPage, IsTold, StandsWithout};
+ghost use Rattle.jdf_server.specs.Turns.{MayBegin, StepsLineTo, StepsThere, WaitsOn};
+ghost use Rattle.jdf_server.specs.Turns as turns;
+ghost use Rattle.std.specs.List.{list_any};
 ghost use Rattle.std.specs.Option.{option_map};
 
 use crate::server::Server;
@@ -36,7 +38,9 @@ use ticket_items::Refusal;
 const STEPS_TIME: u64 = 100;
 
 /// Whether a worker is begun by what comes: a part, or that one is to be given up.
-fn is_begun_by(coming: &Coming) -> bool {
+fn is_begun_by(coming: &Coming) -> bool
+    ensures { result ≡ turns.is_begun_by coming.now }
+{
     match coming {
         Coming::Message(message) => match message.body {
             Body::Submit(_) | Body::Abort(_) => true,
@@ -44,6 +48,13 @@ fn is_begun_by(coming: &Coming) -> bool {
         },
         Coming::Order(_) | Coming::Neither(_) => false,
     }
+}
+
+/// Whether a worker is begun by what comes with one of these errands.
+fn some_begins(errands: &[Errand<TcpStream>]) -> bool
+    ensures { result ≡ list_any (λ e. turns.is_begun_by e.coming) errands.now }
+{
+    errands.iter().any(|one| is_begun_by(&one.coming))
 }
 
 /// Whether the field of this name in a head tells the sender, where one is to.
@@ -67,6 +78,20 @@ fn knows(post: &Option<Post>, sender: &str) -> bool
         Some(post) => post.peers.knows(sender),
         None => true,
     }
+}
+
+/// Whether a page in a browser sends what has this head.
+fn is_of_page(head: &[u8]) -> bool
+    ensures { IsOfPage head.now result }
+{
+    lone_field(head, b"Origin").is_some()
+}
+
+/// Whether one may send who is told of, is known, and is no page in a browser.
+fn all_allow(is_told: bool, is_known: bool, is_of_page: bool) -> bool
+    ensures { result ≡ is_told && is_known && not is_of_page }
+{
+    is_told && is_known && !is_of_page
 }
 
 /// Keeps what a file held last, where that is known.
@@ -187,15 +212,18 @@ impl<'a, R: Locks + Net + Clock, F: Write + Drop> Server<'a, R, F> {
     }
 
     /// Whether a sender may send here: where a field of the head tells who sends, it tells this
-    /// one, and where the other controllers are known it is one of them.
+    /// one, where the other controllers are known it is one of them, and no page in a browser sends
+    /// it, since anybody's page could.
     fn may_send(&self, sender: &str, head: &[u8]) -> bool
         // Proved: A sender may send just if the field of the head that is to tell who sends tells
-        // this one, and the peers' file, where there is one, has a URL for it.
+        // this one, the peers' file, where there is one, has a URL for it, and the head doesn't
+        // tell that a page in a browser sends it.
         ensures { MaySend self.entry.now head.now sender.now result }
     {
         let is_told = tells(self.sender_field, head, sender);
         let is_known = knows(&self.post, sender);
-        is_told && is_known
+        let is_of_page = is_of_page(head);
+        all_allow(is_told, is_known, is_of_page)
     }
 
     /// Whether a folder has no file of this path.
@@ -209,8 +237,12 @@ impl<'a, R: Locks + Net + Clock, F: Write + Drop> Server<'a, R, F> {
     /// Begins the controller of a line that isn't there: a worker for one more of many masters, by
     /// the first command that comes from it, where the other controllers are known. Answers whether
     /// it is there.
-    fn begins(&self, path: &str, to: &Owner, errands: &[Errand<TcpStream>]) -> bool {
-        if self.post.is_none() || !errands.iter().any(|one| is_begun_by(&one.coming)) {
+    fn begins(&self, path: &str, to: &Owner, errands: &[Errand<TcpStream>]) -> bool
+        // Proved: A controller is begun only where other controllers are known, where it is a
+        // worker, and by a command for one.
+        ensures { result ≡ true → MayBegin self.now to.now errands.now }
+    {
+        if self.post.is_none() || !some_begins(errands) {
             return false;
         }
         match to {
@@ -240,8 +272,7 @@ impl<'a, R: Locks + Net + Clock, F: Write + Drop> Server<'a, R, F> {
         line: Line,
         last: Option<SavedState>,
     ) -> Result<(), AllocError>
-        ensures { OnOk result (WaitsOn (string_bytes path) line.to line.errands.items self.old
-            self.new) }
+        ensures { OnOk result (WaitsOn (string_bytes path) (queue_of line) self.old self.new) }
     {
         self.keep_last(path.as_str(), last)?;
         self.is_locked_out = true;
@@ -282,8 +313,7 @@ impl<'a, R: Locks + Net + Clock, F: Write + Drop> Server<'a, R, F> {
     /// Has the controller of a line make the steps of those who wait. Where somebody else has its
     /// file locked, the line stays.
     fn step_there(&mut self, path: String, line: Line) -> Result<(), AllocError>
-        ensures { OnOk result (StepsThere (string_bytes path) line.to line.errands.items self.old
-            self.new) }
+        ensures { OnOk result (StepsThere (string_bytes path) (queue_of line) self.old self.new) }
     {
         let last = self.saved.take(path.as_str());
         let Line {
@@ -338,10 +368,9 @@ impl<'a, R: Locks + Net + Clock, F: Write + Drop> Server<'a, R, F> {
         // the line leads, and with no other; or with 503, where no steps are made or saved; or
         // with 404, where there is no such controller. Where somebody else has the file locked,
         // those who waited as long as they may are put back with 503, and the others stand in
-        // their order in the line of this controller, and no other line changes. No other client
-        // changes.
-        ensures { OnOk result (StepsLineTo (string_bytes path) line.to line.errands.items self.old
-            self.new) }
+        // their order in the line of this controller, with all that it is to do by itself, and no
+        // other line changes. No other client changes.
+        ensures { OnOk result (StepsLineTo (string_bytes path) (queue_of line) self.old self.new) }
     {
         let Line {
             to,

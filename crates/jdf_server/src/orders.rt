@@ -1,8 +1,13 @@
 //! Orders over a local socket: those who give them, and look at what is where.
 
+ghost use Rattle.std.specs.Prelude.{◌≡◌, IfOk, OnOk};
+ghost use Rattle.jdf_server.specs.Lines.{JoinsOrders};
+ghost use Rattle.jdf_server.specs.Orders.{TakesOrder};
+
 use crate::page::PAGES_TIME;
 use crate::server::Server;
 use http_message::{Body, Method, Received, missing_bytes, path_of};
+use indexmap::IndexMap;
 use keepers::Locks;
 use listeners::GuestRequest;
 use mio::net::UnixStream;
@@ -20,35 +25,55 @@ use stored_state::Coming;
 pub(crate) const ORDERS: usize = 17_179_869_184;
 
 /// The bytes of a body.
-fn bytes_of(alloc: Global, body: &Body) -> Result<Vec<u8>, AllocError> {
+fn bytes_of(alloc: Global, body: &Body) -> Result<Vec<u8>, AllocError>
+    ensures { IfOk result (λ bytes. bytes.items ≡ body.now) }
+{
     Vec::from_slice(alloc, body.as_slice())
 }
 
-impl<'a, R: Locks + Net + Clock + Alloc + Clone + Drop, F: Write + Drop> Server<'a, R, F> {
-    /// Puts an order in the line of the controller in the file of this route.
-    fn join_order(&mut self, route: Route, order: Errand<UnixStream>) -> Result<(), AllocError> {
-        let Route { path, to } = route;
-        if let Some(line) = self.lines.get_mut(path.as_str()) {
-            line.orders.push(order)?;
-            return Ok(());
-        }
-        let mut line = Line::new(self.alloc, to);
+/// Puts an order in the line of the controller in the file of this route.
+fn join_order(
+    alloc: Global,
+    lines: &mut IndexMap<String, Line>,
+    route: Route,
+    order: Errand<UnixStream>,
+) -> Result<(), AllocError>
+    ensures { OnOk result (JoinsOrders route order lines.old lines.new) }
+{
+    let Route { path, to } = route;
+    if let Some(line) = lines.get_mut(path.as_str()) {
         line.orders.push(order)?;
-        self.lines.insert(path, line)?;
-        Ok(())
+        return Ok(());
     }
+    let mut line = Line::new(alloc, to);
+    line.orders.push(order)?;
+    lines.insert(path, line)?;
+    Ok(())
+}
 
+impl<'a, R: Locks + Net + Clock + Alloc + Clone + Drop, F: Write + Drop> Server<'a, R, F> {
     /// Takes an order for the controller of a name, if one is there.
     fn take_order(
         &mut self,
         waiting: WaitingClient<UnixStream>,
         name: &str,
         body: &Body,
-    ) -> Result<(), AllocError> {
+    ) -> Result<(), AllocError>
+        // Proved: An order for the controller of a name stands last in the line of the one to which
+        // that leads, and all else in the lines is as it was; where it leads nowhere no line
+        // changes.
+        // By `join_order`.
+        ensures { OnOk result (TakesOrder waiting name.now body.now self.old self.new) }
+    {
         match named_route(self.rt, self.alloc, &self.place, name, &mut self.engine)? {
             Some(route) => {
                 let coming = Coming::Order(bytes_of(self.alloc, body)?);
-                self.join_order(route, Errand { waiting, coming })
+                join_order(
+                    self.alloc,
+                    &mut self.lines,
+                    route,
+                    Errand { waiting, coming },
+                )
             }
             None => {
                 let response = missing_bytes(self.alloc)?;

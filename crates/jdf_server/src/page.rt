@@ -1,5 +1,8 @@
 //! The readers of the page: those who look, and change nothing.
 
+ghost use Rattle.std.specs.Prelude.{◌≡◌};
+ghost use Rattle.jdf_server.specs.Beginning.{ServesOn};
+
 use crate::server::Server;
 use http_message::{Method, path_of};
 use keepers::Locks;
@@ -20,7 +23,10 @@ pub(crate) const PAGES_TIME: u64 = 10;
 
 impl<'a, R: Locks + Net + Clock + Alloc + Clone + Drop, F: Write + Drop> Server<'a, R, F> {
     /// Answers a reader.
-    fn serve_page(&mut self, wanted: GuestRequest<TcpStream>) -> Result<(), AllocError> {
+    fn serve_page(&mut self, wanted: GuestRequest<TcpStream>) -> Result<(), AllocError>
+        ensures serves { ServesOn self.old self.new }
+        ensures post { self.new.post ≡ self.old.post }
+    {
         let GuestRequest {
             key,
             asked,
@@ -33,7 +39,13 @@ impl<'a, R: Locks + Net + Clock + Alloc + Clone + Drop, F: Write + Drop> Server<
     }
 
     /// Answers the readers that wait, as long as there is time.
-    pub(crate) fn serve_pages(&mut self) -> Result<(), AllocError> {
+    pub(crate) fn serve_pages(&mut self) -> Result<(), AllocError>
+        // Proved: Who looks at the page changes no client who sends messages, no line, and nothing
+        // that goes out by itself.
+        // By `serves`, `post`.
+        ensures serves { ServesOn self.old self.new }
+        ensures post { self.new.post ≡ self.old.post }
+    {
         let wanted = self.readers.take_wanted(self.alloc);
         let mut last = self.moments.now(self.rt, self.clients.now);
         let until = last.saturating_add(PAGES_TIME);

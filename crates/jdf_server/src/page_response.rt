@@ -1,5 +1,8 @@
 //! What a reader of the page is answered with.
 
+ghost use Rattle.std.specs.Prelude.{◌≡◌};
+ghost use Rattle.jdf_server.specs.Beginning.{ServesOn};
+
 use crate::health::Health;
 use crate::lines::keep_in;
 use crate::server::Server;
@@ -339,7 +342,10 @@ impl<'a, R: Locks + Net + Clock + Alloc + Clone + Drop, F: Write + Drop> Server<
     }
 
     /// Whether the folder can be written, as it was found within the last second.
-    fn is_written(&mut self) -> Result<bool, AllocError> {
+    fn is_written(&mut self) -> Result<bool, AllocError>
+        ensures serves { ServesOn self.old self.new }
+        ensures post { self.new.post ≡ self.old.post }
+    {
         if self.health.until <= self.clients.now {
             self.health = Health {
                 until: self.clients.now.saturating_add(HEALTH_TIME),
@@ -351,7 +357,10 @@ impl<'a, R: Locks + Net + Clock + Alloc + Clone + Drop, F: Write + Drop> Server<
 
     /// Whether the shop can go on: its folder can be written, and where it has files a controller
     /// was read of one.
-    fn health_response(&mut self) -> Result<PageContents, AllocError> {
+    fn health_response(&mut self) -> Result<PageContents, AllocError>
+        ensures serves { ServesOn self.old self.new }
+        ensures post { self.new.post ≡ self.old.post }
+    {
         if !self.is_written()? {
             let line = no_room(&self.place);
             return told_page(self.alloc, StatusCode::SERVICE_UNAVAILABLE, line);
@@ -384,7 +393,10 @@ impl<'a, R: Locks + Net + Clock + Alloc + Clone + Drop, F: Write + Drop> Server<
         name: &str,
         is_json: bool,
         now: u64,
-    ) -> Result<PageContents, AllocError> {
+    ) -> Result<PageContents, AllocError>
+        ensures serves { ServesOn self.old self.new }
+        ensures post { self.new.post ≡ self.old.post }
+    {
         let Some(number) = self.number_of(name)? else {
             return told_page(self.alloc, StatusCode::NOT_FOUND, NO_CONTROLLER);
         };
@@ -401,7 +413,10 @@ impl<'a, R: Locks + Net + Clock + Alloc + Clone + Drop, F: Write + Drop> Server<
     }
 
     /// What a path names.
-    fn made_of(&mut self, path: &str, now: u64) -> Result<PageContents, AllocError> {
+    fn made_of(&mut self, path: &str, now: u64) -> Result<PageContents, AllocError>
+        ensures serves { ServesOn self.old self.new }
+        ensures post { self.new.post ≡ self.old.post }
+    {
         match path {
             "/" => self.shop_response(now),
             "/list.json" => self.list_response(now),
@@ -418,7 +433,10 @@ impl<'a, R: Locks + Net + Clock + Alloc + Clone + Drop, F: Write + Drop> Server<
     }
 
     /// The response to one who looks over the local socket: `/list`, or what a controller shows.
-    pub(crate) fn looked_response(&mut self, path: &[u8]) -> Result<Vec<u8>, AllocError> {
+    pub(crate) fn looked_response(&mut self, path: &[u8]) -> Result<Vec<u8>, AllocError>
+        ensures serves { ServesOn self.old self.new }
+        ensures post { self.new.post ≡ self.old.post }
+    {
         let now = seconds(self.rt).unwrap_or(0);
         let PageContents { status, kind, body } = match str::from_utf8(path) {
             Ok("/list") => self.list_response(now)?,
@@ -437,7 +455,10 @@ impl<'a, R: Locks + Net + Clock + Alloc + Clone + Drop, F: Write + Drop> Server<
         &mut self,
         method: Method,
         path: &[u8],
-    ) -> Result<Vec<u8>, AllocError> {
+    ) -> Result<Vec<u8>, AllocError>
+        ensures serves { ServesOn self.old self.new }
+        ensures post { self.new.post ≡ self.old.post }
+    {
         let now = seconds(self.rt).unwrap_or(0);
         let PageContents { status, kind, body } = match str::from_utf8(path) {
             Ok(path) => self.made_of(path, now)?,

@@ -1,6 +1,13 @@
 //! What goes out by itself: which parts are out, and whose turn it is.
 
-ghost use Rattle.std.specs.Prelude.{◌≡◌};
+ghost use Rattle.std.specs.Prelude.{◌≡◌, true, false, is_ok, map, string_bytes, IfOk, OnOk};
+ghost use Rattle.std.specs.Option.{option_map};
+ghost use Rattle.std.specs.Result.{result_ok};
+ghost use Rattle.jdf_server.specs.Flights.{EndsFlight};
+ghost use Rattle.jdf_server.specs.Lines.{ChangesLine, with_own};
+ghost use Rattle.jdf_server.specs.Posting as posting;
+ghost use Rattle.jdf_server.specs.Posting.{AnswersFlight, IsDispatched, IsUnsent, JoinsOwn};
+ghost use Rattle.jdf_server.specs.Posting.{coming_in, is_taken, mark_of, owner_at, path_at};
 
 use crate::server::Server;
 use deliveries::Flight;
@@ -20,6 +27,16 @@ use ticket_items::Refusal;
 /// How much goes out in one round at most.
 const MAX_FLIGHTS: usize = 64;
 
+/// The controller in the file of this path, as it is known.
+fn owner_in(alloc: Global, watched: &ControllerViews, path: &str) -> Result<Owner, AllocError>
+    ensures { IfOk result (λ to. to ≡ owner_at watched.now path.now) }
+{
+    match watched.controllers.get(path) {
+        Some(seat) => seat.owner.copy(alloc),
+        None => Ok(Owner::Any),
+    }
+}
+
 /// Puts something to be done in the line of the controller in the file of this path.
 fn join_own(
     alloc: Global,
@@ -27,15 +44,15 @@ fn join_own(
     watched: &ControllerViews,
     path: String,
     own: Own,
-) -> Result<(), AllocError> {
+) -> Result<(), AllocError>
+    ensures { OnOk result (ChangesLine (string_bytes path)
+        (owner_at watched.now (string_bytes path)) (with_own own) lines.old lines.new) }
+{
     if let Some(line) = lines.get_mut(path.as_str()) {
         line.own.push(own)?;
         return Ok(());
     }
-    let to = match watched.controllers.get(path.as_str()) {
-        Some(seat) => seat.owner.copy(alloc)?,
-        None => Owner::Any,
-    };
+    let to = owner_in(alloc, watched, path.as_str())?;
     let mut line = Line::new(alloc, to);
     line.own.push(own)?;
     lines.insert(path, line)?;
@@ -52,7 +69,8 @@ impl<'a, R: Locks + Net + Clock, F: Write + Drop> Server<'a, R, F> {
 
     /// Puts something to be done in the line of a controller.
     pub(crate) fn join_own(&mut self, path: String, own: Own) -> Result<(), AllocError>
-        ensures { self.new.clients.all ≡ self.old.clients.all }
+        ensures clients { self.new.clients.all ≡ self.old.clients.all }
+        ensures joins { OnOk result (JoinsOwn (string_bytes path) own self.old self.new) }
     {
         join_own(self.alloc, &mut self.lines, &self.watched, path, own)
     }
@@ -66,7 +84,10 @@ impl<'a, R: Locks + Net + Clock, F: Write + Drop> Server<'a, R, F> {
     }
 
     /// The path of the file of a controller.
-    fn path_of(&self, number: usize) -> Result<Option<String>, AllocError> {
+    fn path_of(&self, number: usize) -> Result<Option<String>, AllocError>
+        ensures { IfOk result (λ path. option_map (λ p. string_bytes p) path
+            ≡ path_at self.now.watched number) }
+    {
         match self.watched.controllers.get_index(number) {
             Some((path, _)) => Ok(Some(path.clone()?)),
             None => Ok(None),
@@ -74,7 +95,12 @@ impl<'a, R: Locks + Net + Clock, F: Write + Drop> Server<'a, R, F> {
     }
 
     /// Has a controller send what is in flight, if it is there.
-    fn dispatch_one(&mut self, flight: &Flight) -> Result<(), AllocError> {
+    fn dispatch_one(&mut self, flight: &Flight) -> Result<(), AllocError>
+        // Proved: What is in flight is to be sent by the controller that has it out, in whose line
+        // that stands last; where that isn't known it is withdrawn.
+        ensures { OnOk result (IsDispatched flight.now.line
+            (path_at self.old.watched flight.now.controller) self.old self.new) }
+    {
         match self.path_of(flight.controller)? {
             Some(path) => {
                 let own = send_own(self.alloc, flight, self.own_until())?;
@@ -106,7 +132,15 @@ impl<'a, R: Locks + Net + Clock, F: Write + Drop> Server<'a, R, F> {
         mark: &Mark,
         came: Result<TakenBytes, Refusal>,
     ) -> Result<(), AllocError>
-        ensures { self.new.clients.all ≡ self.old.clients.all }
+        ensures clients { self.new.clients.all ≡ self.old.clients.all }
+        // Proved: An answer that its controller takes settles what is in flight, with the refusal
+        // that it tells of; where it doesn't, that failed. What a controller was to send failed
+        // where it made no step, and is withdrawn where that gave nothing out.
+        // By `answer`, `unsent`.
+        ensures answer { mark.now.is_answer ≡ true → EndsFlight (AnswersFlight self.old.clients.now
+            mark.now.refusal (is_taken came)) mark.now.parcel.line self.old.post self.new.post }
+        ensures unsent { mark.now.is_answer ≡ false → IsUnsent self.old.clients.now came
+            mark.now.parcel.line self.old.post self.new.post }
     {
         let Some((is_taken, sent)) = output_of(came) else {
             self.fail(path, &mark.parcel);
@@ -313,7 +347,9 @@ struct Mark {
 }
 
 /// Whether a step was accepted, and the text that goes out; none where no step was made.
-fn output_of(came: Result<TakenBytes, Refusal>) -> Option<(bool, Option<Vec<u8>>)> {
+fn output_of(came: Result<TakenBytes, Refusal>) -> Option<(bool, Option<Vec<u8>>)>
+    ensures { result ≡ option_map (λ taken. (is_ok taken.reply, taken.answer)) (result_ok came) }
+{
     match came {
         Ok(taken) => {
             let TakenBytes {
@@ -328,13 +364,26 @@ fn output_of(came: Result<TakenBytes, Refusal>) -> Option<(bool, Option<Vec<u8>>
     }
 }
 
+/// The step of which a controller is told this, where it is one.
+fn task_of(refusal: Option<u16>, coming: Coming) -> Option<Task>
+    ensures { result ≡ posting.task_of refusal coming }
+{
+    match coming {
+        Coming::Order(text) => Some(Task::Send(text)),
+        Coming::Message(message) => Some(Task::Take(message, refusal)),
+        Coming::Neither(_) => None,
+    }
+}
+
 /// What is to be done, of what was kept of it and what its controller is told.
-fn own_of(mark: &Mark, coming: Coming) -> Option<Own> {
-    let task = match coming {
-        Coming::Order(text) => Task::Send(text),
-        Coming::Message(message) => Task::Take(message, mark.refusal),
-        Coming::Neither(_) => return None,
-    };
+fn own_of(mark: &Mark, coming: Coming) -> Option<Own>
+    ensures { result ≡ option_map (λ task. record {
+      parcel = mark.now.parcel;
+      task = task;
+      until = mark.now.until;
+    }) (posting.task_of mark.now.refusal coming) }
+{
+    let task = task_of(mark.refusal, coming)?;
     Some(Own {
         parcel: mark.parcel,
         task,
@@ -342,7 +391,9 @@ fn own_of(mark: &Mark, coming: Coming) -> Option<Own> {
     })
 }
 
-fn parts_of_own(own: Own) -> (Mark, Coming) {
+fn parts_of_own(own: Own) -> (Mark, Coming)
+    ensures { result ≡ (mark_of own, coming_in own.task) }
+{
     let Own {
         parcel,
         task,
@@ -370,7 +421,11 @@ fn parts_of_own(own: Own) -> (Mark, Coming) {
     }
 }
 
-fn all_parted(alloc: Global, own: Vec<Own>) -> Result<(Vec<Mark>, Vec<Coming>), AllocError> {
+fn all_parted(alloc: Global, own: Vec<Own>) -> Result<(Vec<Mark>, Vec<Coming>), AllocError>
+    ensures marks { IfOk result (λ parted. parted.0.items ≡ map mark_of own.items) }
+    ensures comings { IfOk result (λ parted. parted.1.items
+        ≡ map (λ one. coming_in one.task) own.items) }
+{
     let mut marks = Vec::with_capacity(alloc, own.len())?;
     let mut comings = Vec::with_capacity(alloc, own.len())?;
     for one in own {

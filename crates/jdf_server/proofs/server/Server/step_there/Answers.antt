@@ -33,9 +33,10 @@ returns-in-LockedOut g c =
     on_ok_weaker c.wait_on.result
     (λ waits. inr (
       waits.0,
+      waits.1,
       subst (λ errands. RefusesLate path now errands waits.0 c.args.self.now.clients.all after.clients.all) same
           (subst (λ clients. RefusesLate path now left waits.0 clients after.clients.all) c.tell_missed.ensures.clients
-          (subst (λ moment. RefusesLate path moment left waits.0 c.tell_missed.new.self.all after.clients.all) c.tell_missed.ensures.moment waits.1)),
-      waits.2,
+          (subst (λ moment. RefusesLate path moment left waits.0 c.tell_missed.new.self.all after.clients.all) c.tell_missed.ensures.moment waits.2)),
+      waits.3,
     ))
     c.wait_on.ensures

@@ -13,7 +13,7 @@ returns-in_ok-insert g c =
     let late = subst (λ clients. RefusesLate (string_bytes c.args.path) c.args.self.now.clients.now c.args.line.errands.items c.in_ok-errands.errands.items clients c.refuse_late.new.self.all) c.keep_last.ensures.clients then in
     let all = subst (λ clients. RefusesLate (string_bytes c.args.path) c.args.self.now.clients.now c.args.line.errands.items c.in_ok-errands.errands.items c.args.self.now.clients.all clients) (sym c.refuse_late_orders.ensures.clients) late in
     let lines = c.refuse_late_orders.ensures.rest.1 ∙ c.keep_last.ensures.rest.1 in
-    (c.in_ok-errands.errands.items, all, stays_with c.args.path line c.refuse_late_orders.new.self.lines c.args.self.now.lines c.insert.new.self lines c.in_ok-insert.ensures.updates)
+    (c.in_ok-errands.errands.items, c.in_ok-orders.orders.items, all, stays_with c.args.path line c.refuse_late_orders.new.self.lines c.args.self.now.lines c.insert.new.self lines c.in_ok-insert.ensures.updates)
 
 pub returns-else-not-is_empty-3 : goal.returns-else-not-is_empty-3
 returns-else-not-is_empty-3 g c =
@@ -23,4 +23,6 @@ returns-else-not-is_empty-3 g c =
     let all = subst (λ clients. RefusesLate (string_bytes c.args.path) c.args.self.now.clients.now c.args.line.errands.items c.in_ok-errands.errands.items c.args.self.now.clients.all clients) (sym c.refuse_late_orders.ensures.clients) late in
     let lines = c.refuse_late_orders.ensures.rest.1 ∙ c.keep_last.ensures.rest.1 in
     let none = none_left c.in_ok-errands.errands c.is_empty.result c.is_empty.ensures c.if-not-is_empty.false in
-    (c.in_ok-errands.errands.items, all, stays_without none lines)
+    let unordered = none_left c.in_ok-orders.orders c.is_empty-else-not-is_empty.result c.is_empty-else-not-is_empty.ensures c.if-not-is_empty-2.false in
+    let idle = none_left c.args.line.own c.is_empty-else-not-is_empty-2.result c.is_empty-else-not-is_empty-2.ensures c.if-not-is_empty-3.false in
+    (c.in_ok-errands.errands.items, c.in_ok-orders.orders.items, all, stays_without (none, unordered, idle) lines)
