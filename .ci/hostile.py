@@ -378,7 +378,9 @@ def run_order_sent(chance, folder):
     put(held)
     with answering(damaged(chance, answered(chance, kind))) as url:
         ran = Ran(["order", "state.json", "--at", "200", "--send", url], order(chance, kind))
-    if not NOT_TAKEN.fullmatch(ran.told):
+    if ran.told == f"Answered with no message by {url}: 200\n":
+        wants(ran.status == 1, "status", ran.status)
+    elif not NOT_TAKEN.fullmatch(ran.told):
         ends_well(ran, is_begun=ran.out != "", address=authority(url))
     # A command that comes as the response is answered, as `take` does.
     lines = [line for line in ran.out.split("\n")[:-1] if not line.startswith("{")]

@@ -5,12 +5,15 @@ Several jobs of one shop, messages that the other end refuses, controllers that 
 copy, orders that wait for their input, and parts that grow. Each test runs the program in a folder
 of its own. The last line says how many passed.
 """
+import contextlib
+import http.server
 import json
 import os
 import select
 import shutil
 import subprocess
 import sys
+import threading
 import time
 
 import processes
@@ -34,6 +37,32 @@ def withdraw(spawn_id):
 def sends(file, given, url):
     """What comes of an order whose message is sent."""
     return run("order", file, "--at", AT, "--send", url, given=given)
+
+
+class Nobody(http.server.BaseHTTPRequestHandler):
+    """No controller: it answers each message with 200, and with nothing behind the head."""
+
+    def do_POST(self):
+        self.rfile.read(int(self.headers["Content-Length"]))
+        self.send_response(200)
+        self.send_header("Content-Length", "0")
+        self.end_headers()
+
+    def log_message(self, *_):
+        pass
+
+
+@contextlib.contextmanager
+def answering_nothing():
+    """The URL of one that does so."""
+    with http.server.HTTPServer(("127.0.0.1", 0), Nobody) as server:
+        thread = threading.Thread(target=server.serve_forever)
+        thread.start()
+        try:
+            yield f"http://127.0.0.1:{server.server_port}/jmf"
+        finally:
+            server.shutdown()
+            thread.join()
 
 
 def begins_worker(file, master):
@@ -117,6 +146,28 @@ def that_a_spawn_is_declined_is_no_failure_of_a_withdrawal():
         wants(sends("mis", withdraw("S1"), bindery.url()), (0, "Asked S1\nFreed S1\n", ""))
         # Of the part it is one.
         wants(run("send", bindery.url(), given=late)[::2], (1, "Refused 38 Declined by bindery\n"))
+
+
+def a_200_with_no_message_is_no_answer():
+    """It is told with the URL that the message went to. No step is made of it: the file and the
+    journal hold what the same order leaves that isn't sent."""
+    open_shop()
+    with answering_nothing() as url:
+        told = f"Answered with no message by {url}: 200\n"
+        with open("table.json", "w", encoding="utf-8") as table:
+            json.dump({"press": url}, table)
+        for given, reply, place in ((COVER, "Spawned S1", url), (RESEND, "Sent S1", url),
+                                    (RESEND, "Sent S1", "@table.json"),
+                                    (withdraw("S1"), "Asked S1", url)):
+            shutil.copy("mis", "mis.bak")
+            beside = run("order", "mis.bak", "--at", AT, "--journal", "beside.log", given=given)
+            wants(beside[1].split("\n")[0], reply)
+            wants(run("order", "mis", "--at", AT, "--journal", "journal.log", "--send", place,
+                      given=given), (1, reply + "\n", told))
+            wants(content("mis"), content("mis.bak"))
+            wants(content("journal.log"), content("beside.log"))
+        # A message that is sent by itself may be an answer, to which there is none.
+        wants(run("send", url, given=order("mis", RESEND)[1]), (0, "", ""))
 
 
 # ---- older copies
@@ -295,6 +346,7 @@ TESTS = [
     what_an_answer_says_is_told,
     that_the_other_end_refuses_is_told,
     that_a_spawn_is_declined_is_no_failure_of_a_withdrawal,
+    a_200_with_no_message_is_no_answer,
     an_older_master_is_not_safe,
     an_older_worker_harms_no_ticket,
     a_command_that_waits_for_its_input_holds_nothing,

@@ -1,10 +1,12 @@
 -- How the words of the command line end.
 use Rattle.std.specs.Prelude.{◌≡◌, ◌≢◌, ◌⊎◌, ℕ, Bool, List, [], map, String, string_bytes}
 use Rattle.std.specs.Prelude.{Option, Some, None, is_some, option_map, false, true}
+use Rattle.std.specs.Prelude.{if◌then◌else◌}
 use Rattle.std.specs.Borrow.{Bor}
 use Rattle.std.specs.declared.alloc.Global.{Global}
 use Rattle.clap.specs.Words.{IsAmong, fault_of, subcommand_of, takes}
 use Rattle.clap.specs.declared.error.kind.ErrorKind.{ErrorKind}
+use Rattle.httparse.specs.Grammar.{is_token}
 use Rattle.ticket_items.specs.declared.refusal.Refusal.TheVariants.{Memory}
 use Rattle.streams.specs.declared.refused.Refused.TheVariants.{Core, ReadFailed, SaveFailed}
 use Rattle.streams.specs.declared.fault.Fault.TheVariants.{Device, Input}
@@ -57,13 +59,24 @@ EndsSending true file at url input output told status = EndsNowhere input output
 EndsSending false file at url input output told status =
     EndsSendOrder file at url input output told status
 
+-- the name of the field that is to tell who sends, where no field can have it (RFC 9110)
+abbrev pub wrong_name : Option (List ℕ) → Option (List ℕ)
+wrong_name None = None
+wrong_name (Some name) = if is_token name then None else Some name
+
+-- `serve`: where it is given such a name nothing is written, and there is no call
+abbrev pub EndsServing : Option (List ℕ) → Traffic → ℕ → Type 0
+EndsServing (Some name) output status = IsUntouched output × (status ≡ NO_CALL)
+EndsServing None output status = EndsServe status
+
 -- how a call over the network ends
 abbrev pub EndsNetwork : NetworkCall → Traffic → Traffic → Traffic → ℕ → Type 0
 EndsNetwork Loop input output told status = EndsLoop input output told status
 EndsNetwork (SendOrder file at url) input output told status =
     EndsSending (is_etcd file.now) file at url.now input output told status
 EndsNetwork (Serve file listen limits requests peers field) input output told status =
-    EndsServe status
+    IsUntouched input
+    × EndsServing (wrong_name (option_map (λ name. name.now) field)) output status
 EndsNetwork (Send url file) input output told status = EndsSend input output told status
 
 -- ---- calls

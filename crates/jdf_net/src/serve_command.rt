@@ -366,7 +366,8 @@ pub fn run_serve<R: Locks + Net + Clock + Alloc + Clone + Drop, W: Write, F: Wri
     writer: &mut Counted<W>,
     faults: &mut Counted<F>,
 ) -> u8
-    // Proved: The exit status of `serve` is 0, 1 or 4.
+    // Proved: The exit status of `serve` is 0, 1 or 4, or 2 where its words are no call.
+    // By `run_network`.
     ensures { EndsServe result }
 {
     match serve(rt, alloc, service, writer, faults) {

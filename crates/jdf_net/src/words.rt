@@ -9,7 +9,9 @@ ghost use Rattle.jdf_words.specs.Calls as calls;
 ghost use Rattle.jdf_send.specs.InputFile.{file_of as file_in};
 ghost use Rattle.jdf_net.specs.Words.{EndsAnswer, EndsAnyCall, EndsFrom};
 ghost use Rattle.jdf_net.specs.Words.{EndsFromFile, EndsJournaled};
-ghost use Rattle.jdf_net.specs.Words.{EndsKept, EndsNetwork, EndsWithJournal, EndsWords};
+ghost use Rattle.jdf_net.specs.Words.{EndsKept, EndsNetwork, EndsServing, EndsWithJournal};
+ghost use Rattle.jdf_net.specs.Words.{EndsWords};
+ghost use Rattle.jdf_net.specs.Words as ends;
 ghost use Rattle.etcd_place.specs.Place.{is_etcd as is_etcd_text};
 ghost use Rattle.streams.specs.Streams.{traffic};
 
@@ -18,6 +20,7 @@ use cell_commands::{refuse_place, run_in_cell};
 use document_commands::{CausedFault, give_up_caused};
 use etcd_place::{EtcdPlace, is_etcd};
 use file_commands::run_file;
+use httparse::is_token;
 use jdf_commands::run_document;
 use jdf_loop::run_loop;
 use jdf_send::{SendOrder, file_of, open_input, run_send, run_send_order};
@@ -113,6 +116,50 @@ fn refuse_sending<F: Write>(file: &str, faults: &mut Counted<F>) -> u8
     NO_CALL
 }
 
+/// Tells that a name is none of a header field, as far as `faults` takes it. Answers `NO_CALL`.
+fn refuse_field<F: Write>(name: &str, faults: &mut Counted<F>) -> u8
+    ensures { result ≡ NO_CALL }
+{
+    let _ = writeln!(
+        faults,
+        "error: invalid value '{name}' for '--sender-field <NAME>': it is no name of a header field"
+    );
+    NO_CALL
+}
+
+/// The name of the field that is to tell who sends, where no field can have it.
+fn wrong_name(field: Option<&str>) -> Option<&str>
+    ensures { option_map (λ name. name.now) result
+        ≡ ends.wrong_name (option_map (λ name. name.now) field.entry) }
+{
+    let name = field?;
+    if is_token(name.as_bytes()) {
+        return None;
+    }
+    Some(name)
+}
+
+/// Serves, unless the field that is to tell who sends has a name that no field can have: then it is
+/// told so, and there is no call.
+fn run_service<R: Locks + Net + Clock + Alloc + Clone + Drop, W: Write, F: Write>(
+    rt: &R,
+    alloc: Global,
+    service: &Service<'_>,
+    writer: &mut Counted<W>,
+    faults: &mut Counted<F>,
+) -> u8
+    // Proved: `serve` reads nothing of standard input; where the name of the field that is to tell
+    // who sends is no token of RFC 9110, it writes nothing either, with status 2.
+    // By `run_network`.
+    ensures { EndsServing (ends.wrong_name (option_map (λ name. name.now) service.now.sender_field))
+        (traffic W.contents writer.old writer.new) result }
+{
+    match wrong_name(service.sender_field) {
+        Some(name) => refuse_field(name, faults),
+        None => run_serve(rt, alloc, service, writer, faults),
+    }
+}
+
 /// Runs a call over the network; `serve` with the journal and the page that are named beside it.
 fn run_network<R: Locks + Net + Clock + Alloc + Clone + Drop, I: Read, W: Write, F: Write>(
     rt: &R,
@@ -156,7 +203,7 @@ fn run_network<R: Locks + Net + Clock + Alloc + Clone + Drop, I: Read, W: Write,
                 sender_field: *sender_field,
                 journal: asked.journal,
             };
-            run_serve(rt, alloc, &service, writer, faults)
+            run_service(rt, alloc, &service, writer, faults)
         }
         NetworkCall::Send { url, file } => {
             run_send(rt, alloc, url, *file, reader, writer, faults)

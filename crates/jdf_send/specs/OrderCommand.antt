@@ -1,5 +1,5 @@
 -- How `order` with `--send` ends.
-use Rattle.std.specs.Prelude.{◌≡◌, ◌≢◌, ◌⊎◌, ◌≤◌, ℕ, Bool, false, true, List, [], Option, Some, None}
+use Rattle.std.specs.Prelude.{◌≡◌, ◌≢◌, ◌⊎◌, ◌≤◌, ℕ, Bool, true, List, Option, Some, None}
 use Rattle.std.specs.Prelude.{Result, Ok}
 use Rattle.std.specs.Borrow.{Bor}
 use Rattle.ticket_items.specs.declared.refusal.Refusal.{Refusal}
@@ -21,8 +21,7 @@ use Rattle.streams.specs.declared.fault.Fault.TheVariants.{Input}
 use Rattle.streams.specs.declared.refused.Refused.TheVariants.{Core}
 use Rattle.jdf_send.specs.SendCommand.{IsNoPlace}
 use Rattle.jdf_send.specs.declared.order_command.run.OrderResult.{OrderResult}
-use Rattle.jdf_send.specs.declared.order_command.run.OrderResult.TheVariants.{Answered, NoPeer}
-use Rattle.jdf_send.specs.declared.order_command.run.OrderResult.TheVariants.{Refused}
+use Rattle.jdf_send.specs.declared.order_command.run.OrderResult.TheVariants.{Answered}
 use Rattle.file_commands.specs.Calls.{DoesNone}
 use Rattle.keepers.specs.SystemFile.{file_bytes, is_honest, keep_in_file, place}
 use Rattle.document_commands.specs.Caused.{EndsWithCaused, GivesUpCaused}
@@ -62,23 +61,22 @@ pub record TakesAnswer (file : Bor (List ℕ)) (at : ℕ) (answer text : List �
   pub decoded : IsDecodedAs answer (Ok message)
   pub written : IsOfAnswer message reply sent text refused
 
--- what is written of the answer to a message, which the controller in the file has taken; and
--- nothing where there is none
-abbrev pub IsWrittenOf : Bor (List ℕ) → ℕ → List ℕ → List ℕ → Bool → Type 0
-IsWrittenOf file at answer text refused =
-    ((answer ≡ []) × (text ≡ []) × (refused ≡ false)) ⊎ TakesAnswer file at answer text refused
-
 -- the same of some answer
 abbrev pub IsOfSome : Bor (List ℕ) → ℕ → List ℕ → Bool → Type 0
-IsOfSome file at text refused = (answer : List ℕ) × IsWrittenOf file at answer text refused
+IsOfSome file at text refused = (answer : List ℕ) × TakesAnswer file at answer text refused
 
 -- the same of what came of a message
 abbrev pub IsCome : Bor (List ℕ) → ℕ → OrderResult → Type 0
-IsCome file at (Refused status) = Unit {0}
-IsCome file at NoPeer = Unit {0}
 IsCome file at (Answered output) = IsOfSome file at output.text.items output.refused
+IsCome file at came = Unit {0}
 
--- a message is sent on, and that is given out, or nothing where it gave up, another status came or
+-- nothing came of a message that the controller in the file could take
+abbrev pub IsUntaken : OrderResult → Type 0
+IsUntaken (Answered output) = ⊥
+IsUntaken came = Unit {0}
+
+-- a message is sent on, and what is written of its answer is given out; or nothing is, and the
+-- status isn't 0: where it gave up; or where another status than 200 came, no message with that, or
 -- its receiver has no URL, which is told
 abbrev pub SendsOn : Bor (List ℕ) → ℕ → Ending
 SendsOn file at output told status =
@@ -148,18 +146,12 @@ pub record TakingJournaled {J : Type 0} (held_by : J → List ℕ) (is_missed : 
   pub lines :
       IsJournaled held_by is_missed (IsMessageLine (name_of after.controller) at answer) reply old new
 
--- the same of an answer, and nothing of none
-abbrev pub AnswerJournaled : {J : Type 0} → (J → List ℕ) → (J → Bool) → Bor (List ℕ) → ℕ → List ℕ
-    → J → J → Type 0
-AnswerJournaled held_by is_missed file at answer old new =
-    ((answer ≡ []) × IsLeft held_by is_missed old new)
-    ⊎ TakingJournaled held_by is_missed file at answer old new
-
--- the same of some answer, or of none
+-- the same of some answer; or nothing, where none was taken
 abbrev pub SomeJournaled : {J : Type 0} → (J → List ℕ) → (J → Bool) → Bor (List ℕ) → ℕ → J → J
     → Type 0
 SomeJournaled held_by is_missed file at old new =
-    (answer : List ℕ) × AnswerJournaled held_by is_missed file at answer old new
+    IsLeft held_by is_missed old new
+    ⊎ ((answer : List ℕ) × TakingJournaled held_by is_missed file at answer old new)
 
 -- the line of the order's step, and behind it, where the journal is honest then, that of the answer's
 pub record OrderAndAnswerJournaled {J : Type 0} (is_honest : J → Bool) (held_by : J → List ℕ)

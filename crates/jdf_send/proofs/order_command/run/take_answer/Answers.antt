@@ -7,8 +7,7 @@ use Rattle.jdf_send.proofs.order_command.run.take_answer.Goals as goal
 pub returns-clause-ok : goal.returns-clause-ok
 returns-clause-ok g c =
     IfOk-weaker c.answer_output.result _ _
-    (λ output is. inr
-    record {
+    (λ output is. record {
       reply = c.in_ok-given.given.reply;
       sent = option_map (λ b. b.items) c.in_ok-given.given.answer;
       after = c.in_ok-given.ensures.ok.0;
@@ -20,32 +19,34 @@ returns-clause-ok g c =
     c.answer_output.ensures.ok
 
 pub returns-in_err-message-clause-behind : goal.returns-in_err-message-clause-behind
-returns-in_err-message-clause-behind g c = λ honest. (
-  c.args.answer.now,
-  inr record {
-    reply = c.in_ok-given.given.reply;
-    sent = option_map (λ b. b.items) c.in_ok-given.given.answer;
-    after = (c.in_ok-given.ensures.journal honest).0;
-    given = (c.in_ok-given.ensures.journal honest).1;
-    lines = (c.in_ok-given.ensures.journal honest).2;
-  },
-)
+returns-in_err-message-clause-behind g c = λ honest.
+    inr (
+      c.args.answer.now,
+      record {
+        reply = c.in_ok-given.given.reply;
+        sent = option_map (λ b. b.items) c.in_ok-given.given.answer;
+        after = (c.in_ok-given.ensures.journal honest).0;
+        given = (c.in_ok-given.ensures.journal honest).1;
+        lines = (c.in_ok-given.ensures.journal honest).2;
+      },
+    )
 
 pub returns-clause-behind : goal.returns-clause-behind
-returns-clause-behind g c = λ honest. (
-  c.args.answer.now,
-  inr record {
-    reply = c.in_ok-given.given.reply;
-    sent = option_map (λ b. b.items) c.in_ok-given.given.answer;
-    after = (c.in_ok-given.ensures.journal honest).0;
-    given = (c.in_ok-given.ensures.journal honest).1;
-    lines = (c.in_ok-given.ensures.journal honest).2;
-  },
-)
+returns-clause-behind g c = λ honest.
+    inr (
+      c.args.answer.now,
+      record {
+        reply = c.in_ok-given.given.reply;
+        sent = option_map (λ b. b.items) c.in_ok-given.given.answer;
+        after = (c.in_ok-given.ensures.journal honest).0;
+        given = (c.in_ok-given.ensures.journal honest).1;
+        lines = (c.in_ok-given.ensures.journal honest).2;
+      },
+    )
 
 pub returns-clause-journal : goal.returns-clause-journal
 returns-clause-journal g c =
-    given_out _ c.answer_output.result (λ honest. inr record {
+    given_out _ c.answer_output.result (λ honest. record {
       reply = c.in_ok-given.given.reply;
       sent = option_map (λ b. b.items) c.in_ok-given.given.answer;
       after = (c.in_ok-given.ensures.journal honest).0;
