@@ -44,7 +44,8 @@ IsKnown (Some peers) sender known =
     (url : Option Parts) × IsUrlOf sender peers url × (known ≡ is_some url)
 IsKnown None sender known = known ≡ true
 
--- whether a page in a browser sends this, as the head tells: it has a field `Origin` (RFC 6454, 7.3)
+-- whether a page in a browser sends this, as the head tells: it has one field `Origin` (RFC 6454,
+-- section 7.3)
 abbrev pub IsOfPage : List ℕ → Bool → Type 0
 IsOfPage head page =
     (value : Option (List ℕ)) × HasLone head (codes "Origin") value × (page ≡ is_some value)

@@ -352,8 +352,8 @@ pub(crate) const ROWS: &[Row] = &[
         "63",
         "63 Forbidden\n\
          When it comes: a sender may not send here: the peers' file has no URL for it, or the \
-            field of `--sender-field` isn't there once with its name, or the request has a field \
-            `Origin`, as those of a browser have\n\
+            field of `--sender-field` isn't there once with its name, or the request has one \
+            field `Origin`, as those of a browser have\n\
          Leaves: nothing done; `serve` answers with 403\n\
          What to do: have the sender put into the peers' file, or send under its own name, and \
             not from a page\n",

@@ -129,8 +129,11 @@ impl Post {
         controller: &AnyController,
         now: u64,
     ) -> Result<(), AllocError>
-        // Proved: Behind a look at a controller what it has out is known under its own number: no
-        // spawn that it hasn't out has progress there, and what the others have out stays.
+        // Proved: Behind a look at a controller no spawn that it hasn't out has progress under its
+        // number, none has other progress than it had or `Waiting`, and what the others have out
+        // stays.
+        // Not proved: that what it has out has progress there, for each receiver that is known:
+        // tests show it.
         ensures { OnOk result (SeesController number (out_of controller.now) self.old.deliveries
             self.new.deliveries) }
     {
